@@ -1,0 +1,215 @@
+-- Laws of the bits of numbers and of words made of bits, and of the machine's operations on words. Assumes nothing.
+use mathlib.Core.Path.{_≡_, refl, sym, ap, ap₂, subst, _∙_}
+use mathlib.Core.Bool.{Bool, true, false, not, xor, _&&_, _||_}
+use mathlib.Core.Logic.{_↔_, _≢_, _⊎_, inl, inr, ⊎-elim}
+use Prim.Native.Nat.{ℕ, zero, suc, _+_, _-_, _*_, _/_, _%_, _^_, _≤_, _<_, min, max}
+use native.Mathlib.Nat.{mod-lt, mod-one, mod-eq-of-lt, div-one, div-eq-of-lt, lt-of-lt-of-le, pow-suc}
+use native.Mathlib.Numerals.{one-add, add-one}
+use native.Mathlib.Omega.{arith}
+use native.Mathlib.Decide.{ℕ-discrete, decLe}
+use borrow.Author.Tests.{eqb-true}
+use lib.Arith.{lt-one, lt-of-le-ne}
+use lib.Bits.{bitAnd, bitOr, bitXor, differ, and-step, or-step, xor-step, and-shr, or-shr, xor-shr, or-shifted}
+use lib.Count.{ones, ones-step}
+use lib.Dec.{eqb}
+use lib.Pow.{pow-pos, pow-mono, pow-lt, field, mod-mod-pow, mod-pow-add, high, low, shl-exact, shr-shr, ones-split, ones-lt}
+use Rattle.bits.specs.Bits.{num, has, word, some, sum}
+use Rattle.bits.proofs.TestLaws.{clash, false-when, lt-or-le, num-lt, eqb-num, num-eqb, eqb-same}
+use Rattle.bits.proofs.BoundLaws.{some-in, some-out, sum-ext, sum-front}
+
+-- ---- where a number has bits
+
+-- a bit below n is a bit of the n lowest
+pub has-low : (n x j : ℕ) → j < n → has (x % 2 ^ n) j ≡ has x j
+unfolding has
+has-low n x j h =
+    let e : (n - (1 + j)) + (1 + j) ≡ n = omega arith in
+    ap (λ y. eqb y 1)
+    (sym (field (x % 2 ^ n) 1 j) ∙ ap (λ y. y / 2 ^ j) (subst (λ m. x % 2 ^ m % 2 ^ (1 + j) ≡ x % 2 ^ (1 + j)) e (mod-mod-pow x (n - (1 + j)) (1 + j))) ∙ field x 1 j)
+
+-- above its n bits a number has none
+pub has-high : (n x j : ℕ) → x < 2 ^ n → n ≤ j → has x j ≡ false
+unfolding has
+has-high n x j h l = ap (λ y. eqb (y % 2) 1) (div-eq-of-lt (lt-of-lt-of-le h (pow-mono l)))
+
+pub has-zero : (j : ℕ) → has 0 j ≡ false
+has-zero j = has-high 0 0 j (pow-pos 0) (omega arith)
+
+-- bit i of what stands from bit j on
+pub has-shr : (x j i : ℕ) → has (x / 2 ^ j) i ≡ has x (j + i)
+unfolding has
+has-shr x j i = ap (λ y. eqb (y % 2) 1) (shr-shr x j i)
+
+-- ---- words
+
+top-lt : (n w : ℕ) (b : Bool) → w < 2 ^ n → num b * 2 ^ n + w < 2 ^ suc n
+top-lt n w true h = rw pow-suc (omega arith)
+top-lt n w false h = rw pow-suc (omega arith)
+
+pub word-lt : (n : ℕ) (f : ℕ → Bool) → word n f < 2 ^ n
+unfolding word
+word-lt zero f = pow-pos 0
+word-lt (suc n) f = top-lt n (word n f) (f n) (word-lt n f)
+
+has-top : (n x : ℕ) (b : Bool) → x < 2 ^ n → has (num b * 2 ^ n + x) n ≡ b
+unfolding has
+has-top n x b l = ap (λ y. eqb (y % 2) 1) (high (num b) n l) ∙ ap (λ y. eqb y 1) (mod-eq-of-lt (num-lt b)) ∙ eqb-num b
+
+pub has-word : (n : ℕ) (f : ℕ → Bool) (j : ℕ) → j < n → has (word n f) j ≡ f j
+unfolding word
+has-word zero f j h = absurd (omega arith)
+has-word (suc n) f j h =
+    ⊎-elim
+    (λ l. sym (has-low n (num (f n) * 2 ^ n + word n f) j l) ∙ ap (λ x. has x j) (low (num (f n)) n (word-lt n f)) ∙ has-word n f j l)
+    (λ l. let e : n ≡ j = omega arith in rw (← e) (has-top n (word n f) (f n) (word-lt n f)))
+    (lt-or-le j n)
+
+pub word-ext : (n : ℕ) (f g : ℕ → Bool) → ((j : ℕ) → j < n → f j ≡ g j) → word n f ≡ word n g
+unfolding word
+word-ext zero f g e = refl
+word-ext (suc n) f g e = ap₂ (λ b x. num b * 2 ^ n + x) (e n (omega arith)) (word-ext n f g (λ j h. e j (omega arith)))
+
+-- the word of a number's bits is what its n lowest bits make
+pub word-has : (n x : ℕ) → word n (has x) ≡ x % 2 ^ n
+unfolding word has
+word-has zero x = sym (mod-one x)
+word-has (suc n) x =
+    ap₂ (λ a b. a * 2 ^ n + b) (num-eqb (x / 2 ^ n % 2) (omega arith)) (word-has n x)
+    ∙ sym (mod-pow-add x 1 n) ∙ ap (λ m. x % 2 ^ m) (one-add n)
+
+-- a number of n bits is the word of what its bits are
+pub is-word : (n x : ℕ) (f : ℕ → Bool) → x < 2 ^ n → ((j : ℕ) → j < n → has x j ≡ f j) → x ≡ word n f
+is-word n x f h e = sym (mod-eq-of-lt h) ∙ sym (word-has n x) ∙ word-ext n (has x) f e
+
+-- equal bits, equal numbers
+pub has-ext : (n x y : ℕ) → x < 2 ^ n → y < 2 ^ n → ((j : ℕ) → j < n → has x j ≡ has y j) → x ≡ y
+has-ext n x y h k e = is-word n x (has y) h e ∙ word-has n y ∙ mod-eq-of-lt k
+
+-- a number of n bits is 0 exactly when none of them is set
+pub some-has : (n x : ℕ) → x < 2 ^ n → (some n (has x) ≡ true) ↔ (x ≢ 0)
+some-has n x l = (
+  λ h e. let (i, k, p) = some-out n (has x) h in clash p (ap (λ y. has y i) e ∙ has-zero i),
+  λ h. go h (some n (has x)) refl,
+)
+  where
+    go : x ≢ 0 → (t : Bool) → some n (has x) ≡ t → t ≡ true
+    go h true e = refl
+    go h false e = absurd (h (has-ext n x 0 l (pow-pos n) (λ i k. false-when (has x i) (λ p. clash (some-in n (has x) i k p) e) ∙ sym (has-zero i))))
+
+-- ---- and, or, exclusive or, as the machine computes them
+
+last : (z v : ℕ) (t : Bool) → v ≡ num t → eqb ((z * 2 + v) % 2) 1 ≡ t
+last z v true e = let q : (z * 2 + v) % 2 ≡ 1 = omega arith in rw q
+last z v false e = let q : (z * 2 + v) % 2 ≡ 0 = omega arith in rw q
+
+-- an operation f on the last digits is the operation g on tests
+module _ (f : ℕ → ℕ → ℕ) (g : Bool → Bool → Bool)
+    (h : (f 0 0 ≡ num (g false false)) × (f 0 1 ≡ num (g false true)) × (f 1 0 ≡ num (g true false)) × (f 1 1 ≡ num (g true true))) where
+  last-digit : (x y z : ℕ) → x < 2 → y < 2 → eqb ((z * 2 + f x y) % 2) 1 ≡ g (eqb x 1) (eqb y 1)
+  last-digit zero zero z l k = last z (f 0 0) (g false false) (h .0)
+  last-digit zero (suc zero) z l k = last z (f 0 1) (g false true) (h .1)
+  last-digit (suc zero) zero z l k = last z (f 1 0) (g true false) (h .2)
+  last-digit (suc zero) (suc zero) z l k = last z (f 1 1) (g true true) (h .3)
+  last-digit zero (suc (suc y)) z l k = absurd (omega arith)
+  last-digit (suc zero) (suc (suc y)) z l k = absurd (omega arith)
+  last-digit (suc (suc x)) y z l k = absurd (omega arith)
+
+pub has-and : (a b j : ℕ) → has (bitAnd a b) j ≡ has a j && has b j
+unfolding has
+has-and a b j =
+    ap (λ x. eqb (x % 2) 1) (and-shr a b j ∙ and-step (a / 2 ^ j) (b / 2 ^ j))
+    ∙ last-digit min _&&_ (refl, refl, refl, refl) (a / 2 ^ j % 2) (b / 2 ^ j % 2) (bitAnd (a / 2 ^ j / 2) (b / 2 ^ j / 2)) (omega arith) (omega arith)
+
+pub has-or : (a b j : ℕ) → has (bitOr a b) j ≡ has a j || has b j
+unfolding has
+has-or a b j =
+    ap (λ x. eqb (x % 2) 1) (or-shr a b j ∙ or-step (a / 2 ^ j) (b / 2 ^ j))
+    ∙ last-digit max _||_ (refl, refl, refl, refl) (a / 2 ^ j % 2) (b / 2 ^ j % 2) (bitOr (a / 2 ^ j / 2) (b / 2 ^ j / 2)) (omega arith) (omega arith)
+
+pub has-xor : (a b j : ℕ) → has (bitXor a b) j ≡ xor (has a j) (has b j)
+unfolding has xor
+has-xor a b j =
+    ap (λ x. eqb (x % 2) 1) (xor-shr a b j ∙ xor-step (a / 2 ^ j) (b / 2 ^ j))
+    ∙ last-digit differ xor (refl, refl, refl, refl) (a / 2 ^ j % 2) (b / 2 ^ j % 2) (bitXor (a / 2 ^ j / 2) (b / 2 ^ j / 2)) (omega arith) (omega arith)
+
+-- ---- the complement of n bits: 2 ^ n - 1 - x
+
+word-not : (n : ℕ) (f : ℕ → Bool) → word n (λ i. not (f i)) + word n f + 1 ≡ 2 ^ n
+unfolding word
+word-not zero f = refl
+word-not (suc n) f = go (f n) (word-not n f)
+  where
+    go : (t : Bool) → word n (λ i. not (f i)) + word n f + 1 ≡ 2 ^ n → num (not t) * 2 ^ n + word n (λ i. not (f i)) + (num t * 2 ^ n + word n f) + 1 ≡ 2 ^ suc n
+    go true h = omega (arith, pow-suc 2 n)
+    go false h = omega (arith, pow-suc 2 n)
+
+pub has-not : (n x j : ℕ) → x < 2 ^ n → j < n → has (2 ^ n - 1 - x) j ≡ not (has x j)
+has-not n x j l k =
+    let e : word n (λ i. not (has x i)) ≡ 2 ^ n - 1 - x = omega (arith, word-not n (has x), word-has n x, mod-eq-of-lt l) in
+    ap (λ y. has y j) (sym e) ∙ has-word n (λ i. not (has x i)) j k
+
+-- ---- words that code builds
+
+-- the one bit k
+pub has-one : (k j : ℕ) → has (2 ^ k) j ≡ eqb k j
+unfolding has
+has-one k j = go (ℕ-discrete k j) (decLe k j)
+  where
+    whole : 1 * 2 ^ k + 0 ≡ 2 ^ k
+    whole = omega arith
+
+    go : Dec (k ≡ j) → Dec (k ≤ j) → has (2 ^ k) j ≡ eqb k j
+    go (yes p) d =
+        ap (λ y. eqb (y % 2) 1) (subst (λ y. 2 ^ k / 2 ^ y ≡ 1) p (ap (λ y. y / 2 ^ k) (sym whole) ∙ high 1 k (pow-pos k))) ∙ sym (subst (λ y. eqb k y ≡ true) p (eqb-same k))
+    go (no p) (yes d) = has-high j (2 ^ k) j (pow-lt (lt-of-le-ne d p)) (omega arith) ∙ sym (false-when (eqb k j) (λ e. p (eqb-true k j e)))
+    go (no p) (no d) =
+        sym (has-low k (2 ^ k) j (omega arith)) ∙ ap (λ y. has y j) (ap (λ y. y % 2 ^ k) (sym whole) ∙ low 1 k (pow-pos k)) ∙ has-zero j
+        ∙ sym (false-when (eqb k j) (λ e. p (eqb-true k j e)))
+
+-- `1 << k`
+pub one-shl : (k : ℕ) → k < 64 → 1 * 2 ^ k % 2 ^ 64 ≡ 2 ^ k
+one-shl k h = shl-exact {a = 1} 1 k 64 (pow-lt {i = 0} {j = 1} (omega arith)) (omega arith) ∙ omega arith
+
+-- one more bit at the top: `(t << n) | w`
+pub word-more : (n : ℕ) (f : ℕ → Bool) (t : Bool) → t ≡ f n → bitOr (num t * 2 ^ n) (word n f) ≡ word (n + 1) f
+unfolding word
+word-more n f t e = or-shifted (num t) n (word n f) (word-lt n f) ∙ rw (add-one, e)
+
+word-ones : (n : ℕ) → word n (λ _. true) ≡ 2 ^ n - 1
+unfolding word
+word-ones zero = refl
+word-ones (suc n) = rw (word-ones n, pow-suc) (omega (arith, pow-pos n))
+
+-- the n lowest bits of 64, as all 64 shifted down
+pub lowest-bits : (n : ℕ) → n ≤ 64 → 18446744073709551615 / 2 ^ (64 - n) ≡ word n (λ _. true)
+lowest-bits n h =
+    let e : n + (64 - n) ≡ 64 = omega arith in
+    ap (λ x. x / 2 ^ (64 - n)) (ap (λ m. 2 ^ m - 1) (sym e) ∙ ones-split n (64 - n)) ∙ high (2 ^ n - 1) (64 - n) (ones-lt (64 - n)) ∙ sym (word-ones n)
+
+-- ---- the ones that the machine counts are the set bits
+
+has-half : (x j : ℕ) → has x (suc j) ≡ has (x / 2) j
+unfolding has
+has-half x j = ap (λ y. eqb (y % 2) 1) (subst (λ y. x / 2 ^ y ≡ x / 2 / 2 ^ j) (omega arith) (sym (shr-shr x 1 j)))
+
+has-first : (x : ℕ) → x % 2 ≡ num (has x 0)
+unfolding has
+has-first x = sym (num-eqb (x % 2) (omega arith)) ∙ ap (λ y. num (eqb (y % 2) 1)) (sym (div-one x))
+
+pub ones-bits : (n x : ℕ) → x < 2 ^ n → ones x ≡ sum n (λ j. num (has x j))
+unfolding ones sum
+ones-bits zero x l = ap ones (lt-one l)
+ones-bits (suc n) x l =
+    let e : 2 ^ suc n ≡ 2 ^ n * 2 = pow-suc 2 n in
+    let h : x / 2 < 2 ^ n = omega arith in
+    ones-step x
+    ∙ ap₂ _+_ (has-first x) (ones-bits n (x / 2) h ∙ sum-ext n (λ j. num (has (x / 2) j)) (λ j. num (has x (suc j))) (λ j _. ap num (sym (has-half x j))))
+    ∙ sym (sum-front n (λ j. num (has x j)))
+
+-- of the bits below n there are at most so many, whatever the number
+pub bits-ones : (n x : ℕ) → sum n (λ j. num (has x j)) ≤ ones x
+unfolding sum
+bits-ones zero x = omega arith
+bits-ones (suc n) x =
+    let e : sum n (λ j. num (has (x / 2) j)) ≡ sum n (λ j. num (has x (suc j))) = sum-ext n (λ j. num (has (x / 2) j)) (λ j. num (has x (suc j))) (λ j _. ap num (sym (has-half x j))) in
+    omega (arith, bits-ones n (x / 2), has-first x, ones-step x, sum-front n (λ j. num (has x j)))

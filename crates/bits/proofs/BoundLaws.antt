@@ -1,0 +1,96 @@
+-- Laws of what is said of all indices below a bound: some, sum, list. Assumes nothing.
+use mathlib.Core.Path.{_≡_, refl, sym, ap, ap₂, subst, _∙_}
+use mathlib.Core.Bool.{Bool, true, false, _||_}
+use mathlib.Core.List.{List, [], _∷_, _++_}
+use mathlib.Core.Logic.{_⊎_, inl, inr, ⊎-elim}
+use Prim.Native.Nat.{ℕ, zero, suc, _+_, _≤_, _<_}
+use native.Mathlib.Numerals.{add-one}
+use native.Mathlib.Omega.{arith}
+use native.Mathlib.Decide.{ℕ-discrete}
+use lib.ListN.{length, getD, take, set, length-append, List·getD-append}
+use lib.Seq.{getD-at, take-suc-set, take-length, ext-getD}
+use Rattle.bits.specs.Bits.{some, sum, list}
+use Rattle.bits.proofs.TestLaws.{clash, false-when, lt-or-le}
+
+-- ---- some
+
+pub some-in : (n : ℕ) (f : ℕ → Bool) (k : ℕ) → k < n → f k ≡ true → some n f ≡ true
+unfolding some
+some-in zero f k l h = absurd (omega arith)
+some-in (suc n) f k l h = go (f n) refl (ℕ-discrete k n) (λ l′. some-in n f k l′ h)
+  where
+    go : (x : Bool) → f n ≡ x → Dec (k ≡ n) → (k < n → some n f ≡ true) → x || some n f ≡ true
+    go true e d r = refl
+    go false e (yes p) r = clash h (ap f p ∙ e)
+    go false e (no p) r = r (omega arith)
+
+pub some-out : (n : ℕ) (f : ℕ → Bool) → some n f ≡ true → (k : ℕ) × (k < n) × (f k ≡ true)
+unfolding some
+some-out zero f h = clash h refl
+some-out (suc n) f h = go (f n) refl h (some-out n f)
+  where
+    go : (x : Bool) → f n ≡ x → x || some n f ≡ true → (some n f ≡ true → (k : ℕ) × (k < n) × (f k ≡ true)) → (k : ℕ) × (k < suc n) × (f k ≡ true)
+    go true e q r = (n, omega arith, e)
+    go false e q r = let (k, l, p) = r q in (k, omega arith, p)
+
+pub none-below : (n : ℕ) (f : ℕ → Bool) → some n f ≡ false → (k : ℕ) → k < n → f k ≡ false
+none-below n f h k l = false-when (f k) (λ p. clash (some-in n f k l p) h)
+
+pub some-none : (n : ℕ) (f : ℕ → Bool) → ((k : ℕ) → k < n → f k ≡ false) → some n f ≡ false
+some-none n f h = false-when (some n f) (λ p. let (k, l, q) = some-out n f p in clash q (h k l))
+
+pub some-ext : (n : ℕ) (f g : ℕ → Bool) → ((k : ℕ) → k < n → f k ≡ g k) → some n f ≡ some n g
+unfolding some
+some-ext zero f g e = refl
+some-ext (suc n) f g e = ap₂ _||_ (e n (omega arith)) (some-ext n f g (λ k l. e k (omega arith)))
+
+-- ---- sum
+
+pub sum-ext : (n : ℕ) (f g : ℕ → ℕ) → ((k : ℕ) → k < n → f k ≡ g k) → sum n f ≡ sum n g
+unfolding sum
+sum-ext zero f g h = refl
+sum-ext (suc n) f g h = ap₂ _+_ (h n (omega arith)) (sum-ext n f g (λ k l. h k (omega arith)))
+
+pub sum-le : (n : ℕ) (f g : ℕ → ℕ) → ((k : ℕ) → k < n → f k ≤ g k) → sum n f ≤ sum n g
+unfolding sum
+sum-le zero f g h = omega arith
+sum-le (suc n) f g h = omega (arith, h n (omega arith), sum-le n f g (λ k l. h k (omega arith)))
+
+-- the first apart from the others
+pub sum-front : (n : ℕ) (f : ℕ → ℕ) → sum (suc n) f ≡ f 0 + sum n (λ k. f (suc k))
+unfolding sum
+sum-front zero f = refl
+sum-front (suc n) f = let e : sum (suc n) f ≡ f 0 + sum n (λ k. f (suc k)) = sum-front n f in omega arith
+
+-- ---- list
+
+pub length-list : {A : Type 0} (n : ℕ) (f : ℕ → A) → length (list n f) ≡ n
+unfolding list
+length-list zero f = refl
+length-list (suc n) f = rw (length-append, length-list n f) (omega arith)
+
+pub getD-list : {A : Type 0} (n : ℕ) (f : ℕ → A) (d : A) (i : ℕ) → i < n → getD (list n f) i d ≡ f i
+unfolding list
+getD-list zero f d i h = absurd (omega arith)
+getD-list (suc n) f d i h =
+    ⊎-elim
+    (λ l. List·getD-append (list n f) _ d i (rw length-list l) ∙ getD-list n f d i l)
+    (λ l. let e : i ≡ n = omega arith in rw e (getD-at (list n f) (f n) [] d n (length-list n f)))
+    (lt-or-le i n)
+
+pub list-ext : {A : Type 0} (n : ℕ) (f g : ℕ → A) → ((k : ℕ) → k < n → f k ≡ g k) → list n f ≡ list n g
+unfolding list
+list-ext zero f g e = refl
+list-ext (suc n) f g e = ap₂ (λ l a. l ++ (a ∷ [])) (list-ext n f g (λ k l. e k (omega arith))) (e n (omega arith))
+
+-- a list of n elements is the list of its elements
+pub list-getD : {A : Type 0} (n : ℕ) (f : ℕ → A) (d : A) (xs : List A) → length xs ≡ n → ((i : ℕ) → i < n → getD xs i d ≡ f i) → xs ≡ list n f
+list-getD n f d xs e h = ext-getD d xs (list n f) (e ∙ sym (length-list n f)) (λ i l. let k : i < n = omega arith in h i k ∙ sym (getD-list n f d i k))
+
+-- a loop that fills a list from the front: one element more, and all of them
+pub list-more : {A : Type 0} (i : ℕ) (f : ℕ → A) (a : A) (xs : List A) → i < length xs → take i xs ≡ list i f → a ≡ f i → take (i + 1) (set xs i a) ≡ list (i + 1) f
+unfolding list
+list-more i f a xs l h e = rw (add-one, take-suc-set xs i a l, h, e)
+
+pub list-done : {A : Type 0} (i n : ℕ) (f : ℕ → A) (xs : List A) → length xs ≡ n → i ≡ n → take i xs ≡ list i f → xs ≡ list n f
+list-done i n f xs l e h = sym (take-length xs) ∙ rw (l, ← e) h

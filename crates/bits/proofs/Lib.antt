@@ -1,0 +1,5 @@
+pub mod TestLaws
+pub mod BoundLaws
+pub mod BitLaws
+pub mod ByteLaws
+pub mod DigitLaws

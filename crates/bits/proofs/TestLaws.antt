@@ -1,0 +1,82 @@
+-- Laws of tests: what true and false exclude, and the Boolean operations. Assumes nothing.
+use mathlib.Core.Path.{_≡_, refl, sym, ap, _∙_}
+use mathlib.Core.Bool.{Bool, true, false, not, xor, cond, _&&_, _||_}
+use mathlib.Core.Logic.{_⊎_, inl, inr}
+use Prim.Native.Nat.{ℕ, zero, suc, _<_, _≤_}
+use native.Mathlib.Omega.{arith}
+use native.Mathlib.Decide.{decLt}
+use lib.Dec.{eqb}
+use borrow.Author.Tests.{eq-eqb}
+use Rattle.bits.specs.Bits.{num}
+
+-- no test is both
+pub clash : {A : Type 0} {a : Bool} → a ≡ true → a ≡ false → A
+clash p q = let z : _≡_ {A = ℕ} 0 1 = cc in absurd (omega arith)
+
+pub true-or-false : (a : Bool) → (a ≡ true) ⊎ (a ≡ false)
+true-or-false true = inl refl
+true-or-false false = inr refl
+
+pub false-when : (a : Bool) → (a ≡ true → ⊥) → a ≡ false
+false-when true f = absurd (f refl)
+false-when false f = refl
+
+-- two tests that imply each other are equal
+pub same-test : (a b : Bool) → (a ≡ true → b ≡ true) → (b ≡ true → a ≡ true) → a ≡ b
+same-test true b f g = sym (f refl)
+same-test false true f g = g refl
+same-test false false f g = refl
+
+pub lt-or-le : (a b : ℕ) → (a < b) ⊎ (b ≤ a)
+lt-or-le a b = elim (decLt a b) [ yes h ↦ inl h | no h ↦ inr (omega arith) ]
+
+-- ---- and
+
+pub and-in : {a b : Bool} → a ≡ true → b ≡ true → a && b ≡ true
+and-in p q = rw (p, q)
+
+pub and-left : (a b : Bool) → a && b ≡ true → a ≡ true
+and-left true b h = refl
+and-left false b h = h
+
+pub and-right : (a b : Bool) → a && b ≡ true → b ≡ true
+and-right true b h = h
+and-right false b h = clash h refl
+
+-- ---- exclusive or
+
+pub xor-false : (b : Bool) → xor false b ≡ b
+unfolding xor
+xor-false true = refl
+xor-false false = refl
+
+pub xor-true : (b : Bool) → xor true b ≡ not b
+unfolding xor
+xor-true true = refl
+xor-true false = refl
+
+-- twice the same changes nothing
+pub xor-twice : (a b : Bool) → xor a (xor a b) ≡ b
+unfolding xor
+xor-twice true true = refl
+xor-twice true false = refl
+xor-twice false true = refl
+xor-twice false false = refl
+
+-- ---- a test as a number
+
+pub num-lt : (a : Bool) → num a < 2
+num-lt true = omega arith
+num-lt false = omega arith
+
+pub eqb-num : (a : Bool) → eqb (num a) 1 ≡ a
+eqb-num true = refl
+eqb-num false = refl
+
+pub num-eqb : (x : ℕ) → x < 2 → num (eqb x 1) ≡ x
+num-eqb zero h = refl
+num-eqb (suc zero) h = refl
+num-eqb (suc (suc x)) h = absurd (omega arith)
+
+pub eqb-same : (x : ℕ) → eqb x x ≡ true
+eqb-same x = eq-eqb x x refl

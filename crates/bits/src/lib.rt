@@ -1,0 +1,1 @@
+// Definitions (specs/) and laws (proofs/) of bits, words, digits and bytes. No code.
