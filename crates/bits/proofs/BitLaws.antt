@@ -19,6 +19,11 @@ use Rattle.bits.proofs.BoundLaws.{some-in, some-out, sum-ext, sum-front
 
 -- ---- where a number has bits
 
+-- above its n bits a number has none
+pub has-high : (n x j : ℕ) → x < 2 ^ n → n ≤ j → has x j ≡ false
+unfolding has
+has-high n x j h l = ap (λ y. eqb (y % 2) 1) (div-eq-of-lt (lt-of-lt-of-le h (pow-mono l)))
+
 -- a bit below n is a bit of the n lowest
 pub has-low : (n x j : ℕ) → j < n → has (x % 2 ^ n) j ≡ has x j
 unfolding has
@@ -26,11 +31,6 @@ has-low n x j h =
     let e : (n - (1 + j)) + (1 + j) ≡ n = omega arith in
     ap (λ y. eqb y 1)
     (sym (field (x % 2 ^ n) 1 j) ∙ ap (λ y. y / 2 ^ j) (subst (λ m. x % 2 ^ m % 2 ^ (1 + j) ≡ x % 2 ^ (1 + j)) e (mod-mod-pow x (n - (1 + j)) (1 + j))) ∙ field x 1 j)
-
--- above its n bits a number has none
-pub has-high : (n x j : ℕ) → x < 2 ^ n → n ≤ j → has x j ≡ false
-unfolding has
-has-high n x j h l = ap (λ y. eqb (y % 2) 1) (div-eq-of-lt (lt-of-lt-of-le h (pow-mono l)))
 
 pub has-zero : (j : ℕ) → has 0 j ≡ false
 has-zero j = has-high 0 0 j (pow-pos 0) (omega arith)

@@ -46,6 +46,12 @@ some-ext (suc n) f g e = ap₂ _||_ (e n (omega arith)) (some-ext n f g (λ k l.
 
 -- ---- sum
 
+-- the first apart from the others
+pub sum-front : (n : ℕ) (f : ℕ → ℕ) → sum (suc n) f ≡ f 0 + sum n (λ k. f (suc k))
+unfolding sum
+sum-front zero f = refl
+sum-front (suc n) f = let e : sum (suc n) f ≡ f 0 + sum n (λ k. f (suc k)) = sum-front n f in omega arith
+
 pub sum-ext : (n : ℕ) (f g : ℕ → ℕ) → ((k : ℕ) → k < n → f k ≡ g k) → sum n f ≡ sum n g
 unfolding sum
 sum-ext zero f g h = refl
@@ -55,12 +61,6 @@ pub sum-le : (n : ℕ) (f g : ℕ → ℕ) → ((k : ℕ) → k < n → f k ≤ 
 unfolding sum
 sum-le zero f g h = omega arith
 sum-le (suc n) f g h = omega (arith, h n (omega arith), sum-le n f g (λ k l. h k (omega arith)))
-
--- the first apart from the others
-pub sum-front : (n : ℕ) (f : ℕ → ℕ) → sum (suc n) f ≡ f 0 + sum n (λ k. f (suc k))
-unfolding sum
-sum-front zero f = refl
-sum-front (suc n) f = let e : sum (suc n) f ≡ f 0 + sum n (λ k. f (suc k)) = sum-front n f in omega arith
 
 -- ---- list
 
@@ -74,7 +74,7 @@ unfolding list
 getD-list zero f d i h = absurd (omega arith)
 getD-list (suc n) f d i h =
     ⊎-elim
-    (λ l. List·getD-append (list n f) _ d i (rw length-list l) ∙ getD-list n f d i l)
+    (λ l. List·getD-append (list n f) (f n ∷ []) d i (rw length-list l) ∙ getD-list n f d i l)
     (λ l. let e : i ≡ n = omega arith in rw e (getD-at (list n f) (f n) [] d n (length-list n f)))
     (lt-or-le i n)
 

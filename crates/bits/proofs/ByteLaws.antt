@@ -71,6 +71,12 @@ pub at-past : (bs : List ℕ) (p : ℕ) → 8 * length bs ≤ p → at bs p ≡ 
 unfolding at
 at-past bs p h = rw (past-end bs (p / 8) (omega arith)) (has-zero (p % 8))
 
+pub at-bytes : (m : ℕ) (f : ℕ → Bool) (p : ℕ) → p < 8 * m → at (bytes m f) p ≡ f p
+unfolding at bytes
+at-bytes m f p h =
+    let e : 8 * (p / 8) + p % 8 ≡ p = omega arith in
+    has-words m 8 (λ i k. f (8 * i + k)) (p / 8) (p % 8) (omega arith) (omega arith) ∙ ap f e
+
 pub length-bytes : (m : ℕ) (f : ℕ → Bool) → length (bytes m f) ≡ m
 unfolding bytes
 length-bytes m f = length-words m 8 (λ i k. f (8 * i + k))
@@ -78,12 +84,6 @@ length-bytes m f = length-words m 8 (λ i k. f (8 * i + k))
 pub bytes-below : (m : ℕ) (f : ℕ → Bool) → Below 256 (bytes m f)
 unfolding bytes
 bytes-below m f = words-below m 8 (λ i k. f (8 * i + k))
-
-pub at-bytes : (m : ℕ) (f : ℕ → Bool) (p : ℕ) → p < 8 * m → at (bytes m f) p ≡ f p
-unfolding at bytes
-at-bytes m f p h =
-    let e : 8 * (p / 8) + p % 8 ≡ p = omega arith in
-    has-words m 8 (λ i k. f (8 * i + k)) (p / 8) (p % 8) (omega arith) (omega arith) ∙ ap f e
 
 pub bytes-ext : (m : ℕ) (f g : ℕ → Bool) → ((p : ℕ) → p < 8 * m → f p ≡ g p) → bytes m f ≡ bytes m g
 unfolding bytes

@@ -1,5 +1,5 @@
 -- Laws of a number and its digits, in any base, and of digits to a power of two and their bits. Assumes nothing.
-use mathlib.Core.Path.{_≡_, refl, sym, ap, _∙_}
+use mathlib.Core.Path.{_≡_, refl, sym, ap, ap₂, _∙_}
 use mathlib.Core.List.{List, [], _∷_, _++_}
 use Prim.Native.Nat.{ℕ, zero, suc, _+_, _*_, _/_, _%_, _^_, _<_, _≤_}
 use native.Mathlib.Nat.{pow-zero, pow-suc, pow-succ', div-one, zero-div, mod-lt, mul-zero, mul-suc, div-add-mod', div-lt-iff-lt-mul, div-div-eq-div-mul, zero-mul, div-add-mod}
@@ -21,7 +21,7 @@ number-lt b (d ∷ ds) h = rw pow-suc (digits-lt (number-lt b ds (λ i. h (suc i
 pub digits-number : (b : ℕ) (ds : List ℕ) → Below b ds → digits b (length ds) (number b ds) ≡ ds
 unfolding number digits
 digits-number b [] h = refl
-digits-number b (d ∷ ds) h = rw (digits-mod (number b ds) (h 0), digits-div (number b ds) (h 0), digits-number b ds (λ i. h (suc i)))
+digits-number b (d ∷ ds) h = ap₂ _∷_ (digits-mod (number b ds) (h 0)) (ap (digits b (length ds)) (digits-div (number b ds) (h 0)) ∙ digits-number b ds (λ i. h (suc i)))
 
 pub number-digits : (b n x : ℕ) → 0 < b → x < b ^ n → number b (digits b n x) ≡ x
 unfolding number digits

@@ -3,3 +3,4 @@ pub mod BoundLaws
 pub mod BitLaws
 pub mod ByteLaws
 pub mod DigitLaws
+mod Examples
