@@ -64,6 +64,10 @@ has-word (suc n) f j h =
     (λ l. let e : n ≡ j = omega arith in rw (← e) (has-top n (word n f) (f n) (word-lt n f)))
     (lt-or-le j n)
 
+-- a bit that a word has is one of its n, and of those that it is made of
+pub word-out : (n : ℕ) (f : ℕ → Bool) (j : ℕ) → has (word n f) j ≡ true → (j < n) × (f j ≡ true)
+word-out n f j h = ⊎-elim (λ l. (l, sym (has-word n f j l) ∙ h)) (λ l. clash h (has-high n (word n f) j (word-lt n f) l)) (lt-or-le j n)
+
 pub word-ext : (n : ℕ) (f g : ℕ → Bool) → ((j : ℕ) → j < n → f j ≡ g j) → word n f ≡ word n g
 unfolding word
 word-ext zero f g e = refl

@@ -1,1 +1,4 @@
 pub mod Examples
+pub mod Walks
+pub mod Taking
+pub mod LevelLaws

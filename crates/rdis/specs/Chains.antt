@@ -18,10 +18,14 @@ abbrev pub turn : Way → Way
 turn byRow = byColumn
 turn byColumn = byRow
 
+-- the row of a cell, or its column
+abbrev pub line : Way → Cell → ℕ
+line byRow c = c .row
+line byColumn c = c .column
+
 -- a step by row goes to a cell of the same row, a step by column to one of the same column
 abbrev pub Step : Way → Cell → Cell → Type 0
-Step byRow c e = c .row ≡ e .row
-Step byColumn c e = c .column ≡ e .column
+Step d c e = line d c ≡ line d e
 
 -- how a chain goes on after a cell c of colour w that is left by way d. P says which cells are of a colour
 abbrev pub Rest : (Bool → Cell → Type 0) → Bool → Way → Cell → List Cell → Type 0
