@@ -2,3 +2,5 @@ pub mod Examples
 pub mod Walks
 pub mod Taking
 pub mod LevelLaws
+pub mod CounterLaws
+pub mod CellLaws
