@@ -4,3 +4,4 @@ pub mod Taking
 pub mod LevelLaws
 pub mod CounterLaws
 pub mod CellLaws
+pub mod PackingLaws
