@@ -5,3 +5,4 @@ pub mod LevelLaws
 pub mod CounterLaws
 pub mod CellLaws
 pub mod PackingLaws
+pub mod SoundLaws
