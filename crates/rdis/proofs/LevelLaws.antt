@@ -98,7 +98,8 @@ levels-by-chain b k l r c e =
     record {
       most = most;
       none = no-level b l h;
-      reached = λ x. let p : 1 ≤ l = one-level b l h x in (p, longest b l h (l - 1) (omega arith));
+      some = one-level b l h;
+      reached = λ p. longest b l h (l - 1) (omega arith);
       greatest = no-longer b l h;
     }
 

@@ -6,3 +6,5 @@ pub mod CounterLaws
 pub mod CellLaws
 pub mod PackingLaws
 pub mod SoundLaws
+pub mod CountLaws
+pub mod FaultLaws

@@ -101,7 +101,7 @@ module _ (P : Bool → Cell → Type 0) where
 unfoldable pub map-walk : {P Q : Bool → Cell → Type 0} {w : Bool} {d : Way} {n : ℕ} → ((v : Bool) (c : Cell) → P v c → Q v c) → Walk P w d n → Walk Q w d n
 map-walk {w = w} f W = record { cell = W .cell; is = λ m l. f (colour w m) (W .cell m) (W .is m l); step = W .step }
 
-pub prefix : {P : Bool → Cell → Type 0} {w : Bool} {d : Way} {n : ℕ} (k : ℕ) → k ≤ n → Walk P w d n → Walk P w d k
+unfoldable pub prefix : {P : Bool → Cell → Type 0} {w : Bool} {d : Way} {n : ℕ} (k : ℕ) → k ≤ n → Walk P w d n → Walk P w d k
 prefix k h W = record { cell = W .cell; is = λ m l. W .is m (omega arith); step = λ m l. W .step m (omega arith) }
 
 pub single : {P : Bool → Cell → Type 0} {w : Bool} {d : Way} (c : Cell) → P w c → Walk P w d zero
