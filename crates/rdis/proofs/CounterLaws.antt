@@ -8,7 +8,7 @@ use Rattle.bits.specs.Bits.{num, has}
 use Rattle.bits.proofs.TestLaws.{clash, false-when, num-lt}
 use Rattle.bits.proofs.BitLaws.{has-high, word-lt, has-word}
 use Rattle.rdis.specs.Block.{Block, stuck, differs, faulty}
-use Rattle.rdis.specs.Levels.{Subgrid, whole, taken, left, Outcome, masked, unmaskable, none, more, plan}
+use Rattle.rdis.specs.Levels.{Subgrid, whole, taken, left, Outcome, masked, unmaskable, none, more, levels, plan}
 use Rattle.rdis.specs.Cells.{flips}
 use Rattle.rdis.specs.Chains.{Cell, Way, byRow, byColumn}
 use Rattle.rdis.specs.Theorems.{Masked, CountersAtMost, WrongWhereFlipped}
@@ -34,16 +34,16 @@ odd-suc (suc (suc n)) =
 
 -- ---- what the counters of the levels over a subgrid say
 
-abbrev tally : Way → (ℕ → ℕ) → (ℕ → ℕ) → ℕ → ℕ
+abbrev pub tally : Way → (ℕ → ℕ) → (ℕ → ℕ) → ℕ → ℕ
 tally byRow r c = r
 tally byColumn r c = c
 
-record Counted (b : Block) (w : Bool) (s : Subgrid) (l : ℕ) (r c : ℕ → ℕ) : Type 0 where
-  outside : (d : Way) (i : ℕ) → has (own d s) i ≡ false → tally d r c i ≡ 0
-  most : (d : Way) (i : ℕ) → tally d r c i ≤ l
-  odd : (i j : ℕ) → i < b .rows → j < b .columns → has (s .rows) i ≡ true → has (s .columns) j ≡ true → stuck b i j ≡ true → faulty b w i j ≡ flips r c i j
+pub record Counted (b : Block) (w : Bool) (s : Subgrid) (l : ℕ) (r c : ℕ → ℕ) : Type 0 where
+  pub outside : (d : Way) (i : ℕ) → has (own d s) i ≡ false → tally d r c i ≡ 0
+  pub most : (d : Way) (i : ℕ) → tally d r c i ≤ l
+  pub odd : (i j : ℕ) → i < b .rows → j < b .columns → has (s .rows) i ≡ true → has (s .columns) j ≡ true → stuck b i j ≡ true → faulty b w i j ≡ flips r c i j
 
-abbrev Counts : Block → Bool → Subgrid → Outcome → Type 0
+abbrev pub Counts : Block → Bool → Subgrid → Outcome → Type 0
 Counts b w s unmaskable = Unit {0}
 Counts b w s (masked l r c) = Counted b w s l r c
 
@@ -92,11 +92,14 @@ next : (b : Block) (w : Bool) (s : Subgrid) (o : Outcome) → Counts b (not w) (
 next b w s unmaskable h = tt
 next b w s (masked l r c) h = counted b w s l r c h
 
-counts : (b : Block) (k l : ℕ) (r c : ℕ → ℕ) → Masked b k l r c → Counted b true (whole b) l r c
-unfolding plan
-counts b k l r c e = subst (Counts b true (whole b)) e (levels-ind b (λ _. Counts b) (λ k. ended b) (λ w s e. tt) (λ k w s o e. next b w s o) k true (whole b))
+pub levels-counted : (b : Block) (k : ℕ) (w : Bool) (s : Subgrid) → Counts b w s (levels b k w s)
+levels-counted b = levels-ind b (λ _. Counts b) (λ k. ended b) (λ w s e. tt) (λ k w s o e. next b w s o)
 
 -- ---- of a plan
+
+counts : (b : Block) (k l : ℕ) (r c : ℕ → ℕ) → Masked b k l r c → Counted b true (whole b) l r c
+unfolding plan
+counts b k l r c e = subst (Counts b true (whole b)) e (levels-counted b k true (whole b))
 
 pub counters-at-most : CountersAtMost
 counters-at-most b k l r c e = (counts b k l r c e .most byRow, counts b k l r c e .most byColumn)

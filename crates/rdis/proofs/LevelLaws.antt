@@ -3,34 +3,52 @@ use Prim.Native.Nat.{ℕ, zero, suc, _+_, _-_, _*_, _≤_, _<_}
 use mathlib.Core.Path.{_≡_, refl, sym, ap, subst, _∙_}
 use mathlib.Core.Bool.{Bool, true, false, not, cond}
 use mathlib.Core.List.{[], _∷_}
-use mathlib.Core.Logic.{_↔_, Iff·symm}
+use mathlib.Core.Logic.{_↔_, _≢_, ⊎-elim, Iff·symm}
 use native.Mathlib.Omega.{arith}
-use Rattle.bits.proofs.TestLaws.{clash}
+use Rattle.bits.specs.Bits.{word}
+use Rattle.bits.proofs.TestLaws.{clash, true-or-false}
+use Rattle.bits.proofs.BoundLaws.{some-ext}
+use Rattle.bits.proofs.BitLaws.{has-word, word-lt, some-has}
 use Rattle.rdis.specs.Block.{Block}
-use Rattle.rdis.specs.Levels.{Subgrid, whole, taken, left, Outcome, masked, unmaskable, none, more, levels, plan}
+use Rattle.rdis.specs.Levels.{Subgrid, whole, takesRow, taken, left, Outcome, masked, unmaskable, none, more, levels, plan}
 use Rattle.rdis.specs.Chains.{HasChain, SomeWrong}
 use Rattle.rdis.specs.Theorems.{RefusedByChain, LevelsUsed, LevelsByChain, NoChainEmpty}
 use Rattle.rdis.proofs.Walks.{twice, twice-is}
 use Rattle.rdis.proofs.Taking.{Long, long-suc, long-zero, long-le, long-whole, some-wrong}
 
--- ---- what holds of how the levels end, whatever it is
+-- ---- one level
 
+pub levels-none : (b : Block) (k : ℕ) (w : Bool) (s : Subgrid) → left b w s ≡ false → levels b k w s ≡ none
+unfolding levels
+levels-none b zero w s e = rw e
+levels-none b (suc k) w s e = rw e
+
+pub levels-stop : (b : Block) (w : Bool) (s : Subgrid) → left b w s ≡ true → levels b zero w s ≡ unmaskable
+unfolding levels
+levels-stop b w s e = rw e
+
+pub levels-next : (b : Block) (k : ℕ) (w : Bool) (s : Subgrid) → left b w s ≡ true → levels b (suc k) w s ≡ more (taken b w s) (levels b k (not w) (taken b w s))
+unfolding levels
+levels-next b k w s e = rw e
+
+-- a wrong cell is left exactly when a row is taken
+pub left-rows : (b : Block) (w : Bool) (s : Subgrid) → (left b w s ≡ true) ↔ (taken b w s .rows ≢ 0)
+unfolding left taken
+left-rows b w s =
+    subst (λ t. (t ≡ true) ↔ (word (b .rows) (takesRow b w s) ≢ 0)) (some-ext (b .rows) _ (takesRow b w s) (has-word (b .rows) (takesRow b w s)))
+    (some-has (b .rows) (word (b .rows) (takesRow b w s)) (word-lt (b .rows) (takesRow b w s)))
+
+-- what holds of how the levels end, whatever it is
 module _ (b : Block) (Q : ℕ → Bool → Subgrid → Outcome → Type 0)
     (ended : (k : ℕ) (w : Bool) (s : Subgrid) → left b w s ≡ false → Q k w s none)
     (stop : (w : Bool) (s : Subgrid) → left b w s ≡ true → Q zero w s unmaskable)
     (next : (k : ℕ) (w : Bool) (s : Subgrid) (o : Outcome) → left b w s ≡ true → Q k (not w) (taken b w s) o → Q (suc k) w s (more (taken b w s) o)) where
   pub levels-ind : (k : ℕ) (w : Bool) (s : Subgrid) → Q k w s (levels b k w s)
-  unfolding levels
-  levels-ind zero w s = go (left b w s) refl
-    where
-      go : (x : Bool) → left b w s ≡ x → Q zero w s (cond x unmaskable none)
-      go true e = stop w s e
-      go false e = ended zero w s e
-  levels-ind (suc k) w s = go (left b w s) refl (levels-ind k (not w) (taken b w s))
-    where
-      go : (x : Bool) → left b w s ≡ x → Q k (not w) (taken b w s) (levels b k (not w) (taken b w s)) → Q (suc k) w s (cond x (more (taken b w s) (levels b k (not w) (taken b w s))) none)
-      go true e h = next k w s (levels b k (not w) (taken b w s)) e h
-      go false e h = ended (suc k) w s e
+  levels-ind zero w s = ⊎-elim (λ e. rw (levels-stop b w s e) (stop w s e)) (λ e. rw (levels-none b zero w s e) (ended zero w s e)) (true-or-false (left b w s))
+  levels-ind (suc k) w s = ⊎-elim
+      (λ e. rw (levels-next b k w s e) (next k w s (levels b k (not w) (taken b w s)) e (levels-ind k (not w) (taken b w s))))
+      (λ e. rw (levels-none b (suc k) w s e) (ended (suc k) w s e))
+      (true-or-false (left b w s))
 
 -- ---- levels and walks
 

@@ -4,7 +4,7 @@ use mathlib.Core.Path.{_≡_, refl, sym, ap, subst, _∙_}
 use mathlib.Core.Bool.{true}
 use mathlib.Core.List.{List, _++_}
 use mathlib.Core.Logic.{⊎-elim}
-use native.Mathlib.Nat.{mod-lt, lt-of-lt-of-le}
+use native.Mathlib.Nat.{mod-lt, div-add-mod, lt-of-lt-of-le}
 use native.Mathlib.Omega.{arith}
 use borrow.Author.Tests.{lt-ltb, ltb-true}
 use lib.Dec.{lit<}
@@ -13,13 +13,13 @@ use lib.Pow.{pow-pos, pow-mono}
 use lib.Seq.{getD-append-add}
 use Rattle.bits.specs.Bits.{list, has, at, number, digits, Below}
 use Rattle.bits.proofs.TestLaws.{lt-or-le}
-use Rattle.bits.proofs.BoundLaws.{length-list, getD-list}
+use Rattle.bits.proofs.BoundLaws.{length-list, getD-list, list-getD}
 use Rattle.bits.proofs.BitLaws.{has-low, has-high, has-shr, none-high}
-use Rattle.bits.proofs.ByteLaws.{below-all}
-use Rattle.bits.proofs.DigitLaws.{number-lt, digits-number, number-digits, length-digits, digits-below, getD-digits, pow-mul, byte-bit}
+use Rattle.bits.proofs.ByteLaws.{below-all, is-bytes}
+use Rattle.bits.proofs.DigitLaws.{number-lt, digits-number, number-digits, length-digits, digits-below, getD-digits, digit-at, pow-mul, digit-bit, byte-bit}
 use Rattle.rdis.specs.Packing.{width, bytesFor, inOrder, packed, unpacked, counter, rowCounter, columnCounter, spareClear}
 use Rattle.rdis.specs.Cells.{reading, stored}
-use Rattle.rdis.specs.Theorems.{Packs, PackedOnly, CounterBits, SpareBits, CountersBack, WidthHolds, ReadBackPacked}
+use Rattle.rdis.specs.Theorems.{Packs, PackedOnly, CounterBits, PackedBits, SpareBits, CountersBack, WidthHolds, ReadBackPacked}
 use Rattle.rdis.proofs.LevelLaws.{levels-by-chain}
 use Rattle.rdis.proofs.CounterLaws.{counters-at-most}
 use Rattle.rdis.proofs.CellLaws.{reading-ext, read-back}
@@ -38,9 +38,13 @@ pub number-packed : (w : ℕ) (cs : List ℕ) → Below (2 ^ w) cs → number 25
 unfolding packed
 number-packed w cs h = number-digits 256 (bytesFor w (length cs)) (number (2 ^ w) cs) (lit< tt) (lt-of-lt-of-le (number-fits w (length cs) cs refl h) (room w (length cs)))
 
+-- the counters of bytes are the digits of their number
+unpacked-digits : (w n : ℕ) (bs : List ℕ) → unpacked w n bs ≡ digits (2 ^ w) n (number 256 bs)
+unfolding unpacked counter
+unpacked-digits w n bs = sym (list-getD n _ 0 (digits (2 ^ w) n (number 256 bs)) (length-digits (2 ^ w) n (number 256 bs)) (λ t l. getD-digits (2 ^ w) n (number 256 bs) t l ∙ rw pow-mul))
+
 pub unpack-pack : (w n : ℕ) (cs : List ℕ) → length cs ≡ n → Below (2 ^ w) cs → unpacked w n (packed w cs) ≡ cs
-unfolding unpacked
-unpack-pack w n cs l h = rw (number-packed w cs h, ← l) (digits-number (2 ^ w) cs h)
+unpack-pack w n cs l h = unpacked-digits w n (packed w cs) ∙ rw (number-packed w cs h, ← l) (digits-number (2 ^ w) cs h)
 
 -- the test gives the bound, and the other way round
 pub clear-fits : (w n : ℕ) (bs : List ℕ) → spareClear w n bs ≡ true → number 256 bs < 2 ^ (w * n)
@@ -52,9 +56,9 @@ unfolding spareClear
 fits-clear w n bs h = lt-ltb (number 256 bs) (2 ^ (w * n)) h
 
 pub pack-unpack : (w n : ℕ) (bs : List ℕ) → length bs ≡ bytesFor w n → Below 256 bs → spareClear w n bs ≡ true → packed w (unpacked w n bs) ≡ bs
-unfolding unpacked packed
+unfolding packed
 pack-unpack w n bs l h s =
-    rw (length-digits, number-digits (2 ^ w) n (number 256 bs) (pow-pos w) (rw (← pow-mul w n) at (clear-fits w n bs s)), ← l) (digits-number 256 bs h)
+    rw (unpacked-digits, length-digits, number-digits (2 ^ w) n (number 256 bs) (pow-pos w) (rw (← pow-mul w n) at (clear-fits w n bs s)), ← l) (digits-number 256 bs h)
 
 packs : (w n : ℕ) (cs : List ℕ) → length cs ≡ n → Below (2 ^ w) cs → Packs w n cs (packed w cs)
 unfolding packed
@@ -77,6 +81,13 @@ pub counter-bits : CounterBits
 unfolding counter
 counter-bits w t k bs h l = has-low w (number 256 bs / 2 ^ (w * t)) k l ∙ has-shr (number 256 bs) (w * t) k ∙ sym (byte-bit bs (w * t + k) h)
 
+pub packed-bits : PackedBits
+packed-bits w cs z h =
+    let p = packs w (length cs) cs refl h in
+    is-bytes (bytesFor w (length cs)) _ (packed w cs) (p .size) (p .bytes)
+    (λ q _. byte-bit (packed w cs) q (p .bytes) ∙ ap (λ x. has x q) (number-packed w cs h) ∙ ap (has (number (2 ^ w) cs)) (sym (div-add-mod q w))
+    ∙ sym (digit-bit w (number (2 ^ w) cs) (q / w) (q % w) (mod-lt q z)) ∙ ap (λ x. has x (q % w)) (digit-at (2 ^ w) (q / w) cs h))
+
 pub spare-bits : SpareBits
 spare-bits w n bs h = (
   λ e p l. byte-bit bs p h ∙ has-high (w * n) (number 256 bs) p (clear-fits w n bs e) l,
@@ -90,8 +101,8 @@ unfolding counter
 counter-lt w bs t = mod-lt (number 256 bs / 2 ^ (w * t)) (pow-pos w)
 
 pub counter-unpacked : (w n t : ℕ) (bs : List ℕ) → t < n → getD (unpacked w n bs) t 0 ≡ counter w bs t
-unfolding unpacked counter
-counter-unpacked w n t bs l = getD-digits (2 ^ w) n (number 256 bs) t l ∙ rw pow-mul
+unfolding unpacked
+counter-unpacked w n t bs l = getD-list n (counter w bs) 0 t l
 
 pub counter-packed : (w t : ℕ) (cs : List ℕ) → Below (2 ^ w) cs → t < length cs → counter w (packed w cs) t ≡ getD cs t 0
 counter-packed w t cs h l = sym (counter-unpacked w (length cs) t (packed w cs) l) ∙ ap (λ ds. getD ds t 0) (unpack-pack w (length cs) cs refl h)

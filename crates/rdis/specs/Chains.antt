@@ -42,9 +42,13 @@ Chain P (c ∷ cs) = P true c × (Rest P true byRow c cs ⊎ Rest P true byColum
 abbrev pub Is : Block → Bool → Cell → Type 0
 Is b w c = (c .row < b .rows) × (c .column < b .columns) × (faulty b w (c .row) (c .column) ≡ true)
 
+-- the cells are a chain of the block
+abbrev pub IsChain : Block → List Cell → Type 0
+IsChain b cs = Chain (Is b) cs
+
 -- the block has a chain of n cells
 unfoldable pub HasChain : Block → ℕ → Type 0
-HasChain b n = (cs : List Cell) × (length cs ≡ n) × Chain (Is b) cs
+HasChain b n = (cs : List Cell) × (length cs ≡ n) × IsChain b cs
 
 -- some cell of the block is wrong
 abbrev pub SomeWrong : Block → Type 0

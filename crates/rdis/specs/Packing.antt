@@ -22,13 +22,13 @@ inOrder m n r c = list m r ++ list n c
 unfoldable pub packed : ℕ → List ℕ → List ℕ
 packed w cs = digits 256 (bytesFor w (length cs)) (number (2 ^ w) cs)
 
--- the n counters of w bits that bytes hold
-unfoldable pub unpacked : ℕ → ℕ → List ℕ → List ℕ
-unpacked w n bs = digits (2 ^ w) n (number 256 bs)
-
--- counter t of them: the w bits from bit w t on
+-- counter t of bytes: the w bits from bit w t on
 unfoldable pub counter : ℕ → List ℕ → ℕ → ℕ
 counter w bs t = number 256 bs / 2 ^ (w * t) % 2 ^ w
+
+-- the first n counters of bytes
+unfoldable pub unpacked : ℕ → ℕ → List ℕ → List ℕ
+unpacked w n bs = list n (counter w bs)
 
 -- the counter of row i, and that of column j after m rows
 abbrev pub rowCounter : ℕ → List ℕ → ℕ → ℕ

@@ -1,12 +1,12 @@
 -- What is proved of grid blocks, each statement by itself. b is a block, k the levels allowed, l the levels used, r and c the counters of rows
 -- and columns, w a width in bits. Assumes nothing.
-use Prim.Native.Nat.{ℕ, _+_, _-_, _*_, _^_, _<_, _≤_}
+use Prim.Native.Nat.{ℕ, _+_, _-_, _*_, _/_, _%_, _^_, _<_, _≤_}
 use mathlib.Core.Path.{_≡_}
 use mathlib.Core.Bool.{true, false}
-use mathlib.Core.List.{List, []}
+use mathlib.Core.List.{List}
 use mathlib.Core.Logic.{_↔_}
 use lib.ListN.{length, getD}
-use Rattle.bits.specs.Bits.{has, at, Below}
+use Rattle.bits.specs.Bits.{has, at, bytes, Below}
 use Rattle.rdis.specs.Block.{Block, Sized, bit, stuck, wrong, stuckCells, faults}
 use Rattle.rdis.specs.Levels.{masked, unmaskable, plan}
 use Rattle.rdis.specs.Cells.{flips, stored, reading}
@@ -73,6 +73,10 @@ PackedOnly = (w n : ℕ) (cs bs : List ℕ) → length cs ≡ n → Below (2 ^ w
 -- bit k of counter t is bit w t + k of the bytes
 abbrev pub CounterBits : Type 0
 CounterBits = (w t k : ℕ) (bs : List ℕ) → Below 256 bs → k < w → has (counter w bs t) k ≡ at bs (w * t + k)
+
+-- and bit p of packed counters is bit p mod w of counter p / w
+abbrev pub PackedBits : Type 0
+PackedBits = (w : ℕ) (cs : List ℕ) → 0 < w → Below (2 ^ w) cs → packed w cs ≡ bytes (bytesFor w (length cs)) (λ p. has (getD cs (p / w) 0) (p % w))
 
 -- the spare bits are those after the last counter's
 abbrev pub SpareBits : Type 0
