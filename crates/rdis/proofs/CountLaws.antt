@@ -1,6 +1,6 @@
 -- Counts of cells: the mask's ones and the stuck cells, and that distinct cells which pass a test are at most so many as do. Assumes nothing.
-use Prim.Native.Nat.{ℕ, zero, suc, _^_, _≤_, _<_}
-use mathlib.Core.Path.{_≡_, refl, sym, ap, _∙_}
+use Prim.Native.Nat.{ℕ, zero, suc, _≤_, _<_}
+use mathlib.Core.Path.{_≡_, sym, ap, _∙_}
 use mathlib.Core.Bool.{Bool, true, false, not, _&&_, and-true, and-false}
 use mathlib.Core.List.{List}
 use native.Mathlib.Omega.{arith}
@@ -8,7 +8,7 @@ use borrow.Author.Tests.{eqb-true}
 use lib.Count.{ones}
 use lib.Dec.{eqb}
 use lib.ListN.{getD}
-use Rattle.bits.specs.Bits.{num, sum, has}
+use Rattle.bits.specs.Bits.{num, sum}
 use Rattle.bits.proofs.TestLaws.{false-when, and-left, and-right, eqb-same}
 use Rattle.bits.proofs.BoundLaws.{sum-ext, sum-le, sum-raise}
 use Rattle.bits.proofs.BitLaws.{ones-bits, bits-ones}

@@ -10,7 +10,7 @@ use Rattle.bits.proofs.BitLaws.{has-high, word-lt, has-word}
 use Rattle.rdis.specs.Block.{Block, stuck, differs, faulty}
 use Rattle.rdis.specs.Levels.{Subgrid, whole, taken, left, Outcome, masked, unmaskable, none, more, levels, plan}
 use Rattle.rdis.specs.Cells.{flips}
-use Rattle.rdis.specs.Chains.{Cell, Way, byRow, byColumn}
+use Rattle.rdis.specs.Chains.{Way, byRow, byColumn}
 use Rattle.rdis.specs.Theorems.{Masked, CountersAtMost, WrongWhereFlipped}
 use Rattle.rdis.proofs.Taking.{own, each, inside, line-taken, line-out, left-in}
 use Rattle.rdis.proofs.LevelLaws.{levels-ind}

@@ -1,7 +1,7 @@
 -- The levels by induction, and by chains: when a plan is refused, and how many levels it uses. Assumes nothing.
 use Prim.Native.Nat.{ℕ, zero, suc, _+_, _-_, _*_, _≤_, _<_}
-use mathlib.Core.Path.{_≡_, refl, sym, ap, subst, _∙_}
-use mathlib.Core.Bool.{Bool, true, false, not, cond}
+use mathlib.Core.Path.{_≡_, refl, subst}
+use mathlib.Core.Bool.{Bool, true, false, not}
 use mathlib.Core.List.{[], _∷_}
 use mathlib.Core.Logic.{_↔_, _≢_, ⊎-elim, Iff·symm}
 use native.Mathlib.Omega.{arith}
@@ -12,7 +12,7 @@ use Rattle.bits.proofs.BitLaws.{has-word, word-lt, some-has}
 use Rattle.rdis.specs.Block.{Block}
 use Rattle.rdis.specs.Levels.{Subgrid, whole, takesRow, taken, left, Outcome, masked, unmaskable, none, more, levels, plan}
 use Rattle.rdis.specs.Chains.{HasChain, SomeWrong}
-use Rattle.rdis.specs.Theorems.{RefusedByChain, LevelsUsed, LevelsByChain, NoChainEmpty}
+use Rattle.rdis.specs.Theorems.{RefusedByChain, LevelsByChain, NoChainEmpty}
 use Rattle.rdis.proofs.Walks.{twice, twice-is}
 use Rattle.rdis.proofs.Taking.{Long, long-suc, long-zero, long-le, long-whole, some-wrong}
 

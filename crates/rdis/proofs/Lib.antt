@@ -1,4 +1,4 @@
-pub mod Examples
+pub mod Cases
 pub mod Walks
 pub mod Taking
 pub mod LevelLaws

@@ -2,7 +2,7 @@
 use Prim.Native.Nat.{ℕ, zero, suc, _+_, _-_, _*_, _/_, _%_, _^_, _≤_, _<_}
 use mathlib.Core.Path.{_≡_, refl, sym, ap, subst, _∙_}
 use mathlib.Core.Bool.{true}
-use mathlib.Core.List.{List, _++_}
+use mathlib.Core.List.{List}
 use mathlib.Core.Logic.{⊎-elim}
 use native.Mathlib.Nat.{mod-lt, div-add-mod, lt-of-lt-of-le}
 use native.Mathlib.Omega.{arith}
@@ -17,8 +17,8 @@ use Rattle.bits.proofs.BoundLaws.{length-list, getD-list, list-getD}
 use Rattle.bits.proofs.BitLaws.{has-low, has-high, has-shr, none-high}
 use Rattle.bits.proofs.ByteLaws.{below-all, is-bytes}
 use Rattle.bits.proofs.DigitLaws.{number-lt, digits-number, number-digits, length-digits, digits-below, getD-digits, digit-at, pow-mul, digit-bit, byte-bit}
-use Rattle.rdis.specs.Packing.{width, bytesFor, inOrder, packed, unpacked, counter, rowCounter, columnCounter, spareClear}
-use Rattle.rdis.specs.Cells.{reading, stored}
+use Rattle.rdis.specs.Packing.{width, bytesFor, inOrder, packed, unpacked, counter, spareClear}
+use Rattle.rdis.specs.Cells.{stored}
 use Rattle.rdis.specs.Theorems.{Packs, PackedOnly, CounterBits, PackedBits, SpareBits, CountersBack, WidthHolds, ReadBackPacked}
 use Rattle.rdis.proofs.LevelLaws.{levels-by-chain}
 use Rattle.rdis.proofs.CounterLaws.{counters-at-most}

@@ -3,7 +3,7 @@ use Prim.Native.Nat.{ℕ, zero, suc, _<_}
 use mathlib.Core.Path.{_≡_, refl, ap, ap₂, _∙_}
 use mathlib.Core.Bool.{Bool, true, false, not, xor, cond, _&&_}
 use mathlib.Core.List.{List}
-use Rattle.bits.specs.Bits.{has, word}
+use Rattle.bits.specs.Bits.{has}
 use Rattle.bits.proofs.BoundLaws.{some-ext}
 use Rattle.bits.proofs.BitLaws.{word-ext}
 use Rattle.bits.proofs.ByteLaws.{words-ext}

@@ -5,7 +5,7 @@ use mathlib.Core.Path.{_≡_, refl, sym, ap, subst, _∙_}
 use mathlib.Core.Bool.{Bool, true, false, not, _&&_, Bool·not-not}
 use mathlib.Core.Logic.{_↔_, _⊎_, inl, inr}
 use native.Mathlib.Omega.{arith}
-use Rattle.bits.specs.Bits.{some, has, word}
+use Rattle.bits.specs.Bits.{some, has}
 use Rattle.bits.proofs.TestLaws.{and-in, and-left, and-right}
 use Rattle.bits.proofs.BoundLaws.{some-in, some-out}
 use Rattle.bits.proofs.BitLaws.{has-word, word-out}

@@ -8,7 +8,7 @@ use native.Mathlib.Nat.{zero-add, suc-add}
 use native.Mathlib.Omega.{arith}
 use native.Mathlib.Decide.{decLe}
 use lib.ListN.{length, getD}
-use Rattle.rdis.specs.Chains.{Cell, Way, byRow, byColumn, turn, line, Step, Rest, Chain}
+use Rattle.rdis.specs.Chains.{Cell, Way, byRow, byColumn, turn, Step, Rest, Chain}
 
 -- ---- what alternates
 
