@@ -1,7 +1,7 @@
 -- The grid cases of document 01 that decide between the definitions and the errors that have been made, computed. Assumes nothing.
 use Prim.Native.Nat.{ℕ}
 use mathlib.Core.Path.{_≡_, refl}
-use mathlib.Core.Bool.{xor}
+use mathlib.Core.Bool.{false, xor}
 use mathlib.Core.List.{List, [], _∷_}
 use mathlib.Core.Logic.{inl}
 use lib.Count.{ones, onesIn}
@@ -12,7 +12,7 @@ use Rattle.rdis.specs.Block.{Block, bit, differs, faulty, count, stuckCe
 use Rattle.rdis.specs.Levels.{Outcome, masked, unmaskable, whole, takes, taken, left, levels, plan}
 use Rattle.rdis.specs.Cells.{flips, holds, stored, reading}
 use Rattle.rdis.specs.Chains.{Cell, IsChain, HasChain}
-use Rattle.rdis.specs.Packing.{width, bytesFor, inOrder, packed}
+use Rattle.rdis.specs.Packing.{width, bytesFor, inOrder, packed, spareClear}
 
 -- as many columns as rows, and the data all zero
 abbrev square : ℕ → List ℕ → List ℕ → Block
@@ -53,6 +53,11 @@ pub cases : run G6 3 ∷ run G6 2 ∷ run G5 1 ∷ run G5 2 ∷ run G5 3 ∷ run
     ∷ []
 unfolding plan levels taken left takes whole faulty differs bit some sum list has word words xor packed bytesFor width number digits flips holds stored reading faults count ones onesIn
 cases = refl
+
+-- the counters of G6 have 12 bits, and here bit 12 is set
+pub spare : spareClear 2 6 (0x5E ∷ 0x1B ∷ []) ≡ false
+unfolding spareClear number
+spare = refl
 
 -- ---- chains
 

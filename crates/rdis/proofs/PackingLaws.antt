@@ -17,9 +17,10 @@ use Rattle.bits.proofs.BoundLaws.{length-list, getD-list, list-getD}
 use Rattle.bits.proofs.BitLaws.{has-low, has-high, has-shr, none-high}
 use Rattle.bits.proofs.ByteLaws.{below-all, is-bytes}
 use Rattle.bits.proofs.DigitLaws.{number-lt, digits-number, number-digits, length-digits, digits-below, getD-digits, digit-at, pow-mul, digit-bit, byte-bit}
+use Rattle.rdis.specs.Block.{Block}
 use Rattle.rdis.specs.Packing.{width, bytesFor, inOrder, packed, unpacked, counter, spareClear}
 use Rattle.rdis.specs.Cells.{stored}
-use Rattle.rdis.specs.Theorems.{Packs, PackedOnly, CounterBits, PackedBits, SpareBits, CountersBack, WidthHolds, ReadBackPacked}
+use Rattle.rdis.specs.Theorems.{Masked, Packs, PackedOnly, FewestBytes, CounterBits, PackedBits, SpareBits, CountersBack, WidthHolds, ReadBackPacked}
 use Rattle.rdis.proofs.LevelLaws.{levels-by-chain}
 use Rattle.rdis.proofs.CounterLaws.{counters-at-most}
 use Rattle.rdis.proofs.CellLaws.{reading-ext, read-back}
@@ -33,6 +34,10 @@ number-fits w n cs l h = rw (pow-mul, l) at (number-lt (2 ^ w) cs h)
 room : (w n : ℕ) → 2 ^ (w * n) ≤ 256 ^ bytesFor w n
 unfolding bytesFor
 room w n = rw (pow-mul 8 ((w * n + 7) / 8)) (pow-mono (omega arith))
+
+pub fewest-bytes : FewestBytes
+unfolding bytesFor
+fewest-bytes w n m = (λ h. omega arith, λ h. omega arith)
 
 pub number-packed : (w : ℕ) (cs : List ℕ) → Below (2 ^ w) cs → number 256 (packed w cs) ≡ number (2 ^ w) cs
 unfolding packed
@@ -146,9 +151,27 @@ width-holds (suc (suc zero)) h = lit< tt
 width-holds (suc (suc (suc zero))) h = lit< tt
 width-holds (suc (suc (suc (suc k)))) h = absurd (omega arith)
 
+module _ (b : Block) (k l : ℕ) (r c : ℕ → ℕ) (e : Masked b k l r c) where
+  plan-lt : (v : ℕ) → k < v → ((i : ℕ) → r i < v) × ((j : ℕ) → c j < v)
+  plan-lt v h =
+      let (rs, cs) = counters-at-most b k l r c e in
+      let most = levels-by-chain b k l r c e .most in
+      (λ i. omega (arith, rs i), λ j. omega (arith, cs j))
+
+  plan-below : (v : ℕ) → k < v → Below v (inOrder (b .rows) (b .columns) r c)
+  plan-below v h = let (rs, cs) = plan-lt v h in in-order-below (b .rows) (b .columns) r c v (omega arith) (λ i _. rs i) (λ j _. cs j)
+
+  -- the packed counters are as a read wants them
+  pub plan-packs : (w : ℕ) → k < 2 ^ w → Packs w (b .rows + b .columns) (inOrder (b .rows) (b .columns) r c) (packed w (inOrder (b .rows) (b .columns) r c))
+  plan-packs w h = packs w (b .rows + b .columns) (inOrder (b .rows) (b .columns) r c) (length-in-order (b .rows) (b .columns) r c) (plan-below (2 ^ w) h)
+
+  pub plan-counter : (w t : ℕ) → k < 2 ^ w → t < b .rows + b .columns → counter w (packed w (inOrder (b .rows) (b .columns) r c)) t ≤ k
+  plan-counter w t h p =
+      omega
+      (arith, counter-packed w t (inOrder (b .rows) (b .columns) r c) (plan-below (2 ^ w) h) (omega (arith, length-in-order (b .rows) (b .columns) r c)), plan-below (suc k) (omega arith) t)
+
 pub read-back-packed : ReadBackPacked
-read-back-packed b k l r c w e h sized bs q =
-    let (rs, cs) = counters-at-most b k l r c e in
-    let most = levels-by-chain b k l r c e .most in
-    let (x, y) = counters-back w (b .rows) (b .columns) r c (λ i _. omega (arith, rs i)) (λ j _. omega (arith, cs j)) in
+read-back-packed b k l r c w bs e h sized q =
+    let (rs, cs) = plan-lt b k l r c e (2 ^ w) h in
+    let (x, y) = counters-back w (b .rows) (b .columns) r c (λ i _. rs i) (λ j _. cs j) in
     rw q (reading-ext (b .rows) (b .columns) _ _ r c x y (stored b r c) ∙ read-back b k l r c e sized)

@@ -7,7 +7,7 @@ use lib.ListN.{length, getD}
 use lib.Count.{ones}
 use Rattle.bits.specs.Bits.{num, sum, has, Below}
 
--- what a write is lent: the size, and a word a row of data, mask and values, in which bit j is column j
+-- what a write is lent: the size, and for each row a word of data, of mask and of values, in which bit j stands for column j
 pub record Block : Type 0 where
   pub rows : ℕ
   pub columns : ℕ
@@ -27,7 +27,7 @@ bit ws i j = has (getD ws i 0) j
 abbrev pub stuck : Block → ℕ → ℕ → Bool
 stuck b = bit (b .mask)
 
--- the data wants the other value than the one of `values`
+-- the data bit is not the value that the cell would be stuck at
 unfoldable pub differs : Block → ℕ → ℕ → Bool
 differs b i j = xor (bit (b .data·) i j) (bit (b .values) i j)
 
@@ -35,12 +35,13 @@ differs b i j = xor (bit (b .data·) i j) (bit (b .values) i j)
 unfoldable pub faulty : Block → Bool → ℕ → ℕ → Bool
 faulty b w i j = stuck b i j && cond w (differs b i j) (not (differs b i j))
 
+-- the cell is stuck at the value that the data does not want
 abbrev pub wrong : Block → ℕ → ℕ → Bool
 wrong b = faulty b true
 
 -- ---- counts
 
--- how many of m rows' and n columns' cells pass a test
+-- how many cells of m rows and n columns pass a test
 unfoldable pub count : ℕ → ℕ → (ℕ → ℕ → Bool) → ℕ
 count m n test = sum m (λ i. sum n (λ j. num (test i j)))
 

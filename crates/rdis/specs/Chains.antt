@@ -7,10 +7,12 @@ use mathlib.Core.Logic.{_⊎_}
 use lib.ListN.{length}
 use Rattle.rdis.specs.Block.{Block, faulty}
 
+-- a cell, by its row and its column
 pub record Cell : Type 0 where
   pub row : ℕ
   pub column : ℕ
 
+-- the two ways to step, and the other one of them
 pub data Way : Type 0 where
   byRow byColumn : Way
 
@@ -18,12 +20,12 @@ abbrev pub turn : Way → Way
 turn byRow = byColumn
 turn byColumn = byRow
 
--- the row of a cell, or its column
+-- the line of a cell that a step keeps
 abbrev pub line : Way → Cell → ℕ
 line byRow c = c .row
 line byColumn c = c .column
 
--- a step by row goes to a cell of the same row, a step by column to one of the same column
+-- a step by row keeps the row, a step by column keeps the column
 abbrev pub Step : Way → Cell → Cell → Type 0
 Step d c e = line d c ≡ line d e
 
@@ -32,8 +34,7 @@ abbrev pub Rest : (Bool → Cell → Type 0) → Bool → Way → Cell → List 
 Rest P w d c [] = Unit {0}
 Rest P w d c (e ∷ es) = Step d c e × P (not w) e × Rest P (not w) (turn d) e es
 
--- a chain: the first cell is of the colour true and the colours alternate; steps by row and by column alternate, and the first is either. A cell
--- may come again
+-- a chain: its first cell is of the colour true and colours alternate; ways alternate too, and the first step is of either. A cell may come again
 abbrev pub Chain : (Bool → Cell → Type 0) → List Cell → Type 0
 Chain P [] = ⊥
 Chain P (c ∷ cs) = P true c × (Rest P true byRow c cs ⊎ Rest P true byColumn c cs)

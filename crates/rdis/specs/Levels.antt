@@ -4,7 +4,7 @@ use mathlib.Core.Bool.{Bool, true, not, cond, _&&_}
 use Rattle.bits.specs.Bits.{num, some, has, word}
 use Rattle.rdis.specs.Block.{Block, faulty}
 
--- rows and columns of the grid, as sets: bit i is row i, bit j is column j. The subgrid is where they cross
+-- a set of rows and a set of columns, a bit for each. The subgrid is where they cross
 pub record Subgrid : Type 0 where
   pub rows : ℕ
   pub columns : ℕ
@@ -46,7 +46,7 @@ abbrev pub more : Subgrid → Outcome → Outcome
 more t (masked l r c) = masked (suc l) (λ i. num (has (t .rows) i) + r i) (λ j. num (has (t .columns) j) + c j)
 more t unmaskable = unmaskable
 
--- at most k levels over a subgrid, the first in the sense w: what a level takes is asked the same question in the other sense
+-- at most k levels over a subgrid, the first in the sense w: each goes on inside what it took, in the other sense and with one level less
 unfoldable pub levels : Block → ℕ → Bool → Subgrid → Outcome
 levels b zero w s = cond (left b w s) unmaskable none
 levels b (suc k) w s = cond (left b w s) (more (taken b w s) (levels b k (not w) (taken b w s))) none
