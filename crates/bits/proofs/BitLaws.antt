@@ -93,7 +93,9 @@ has-ext n x y h k e = is-word n x (has y) h e ∙ word-has n y ∙ mod-eq-of-lt 
 pub none-high : (m n x : ℕ) → x < 2 ^ m → ((j : ℕ) → n ≤ j → has x j ≡ false) → x < 2 ^ n
 none-high m n x h f =
     let l : x % 2 ^ n < 2 ^ n = mod-lt x (pow-pos n) in
-    let e : x ≡ x % 2 ^ n = has-ext (m + n) x (x % 2 ^ n) (lt-of-lt-of-le h (pow-mono (omega arith))) (lt-of-lt-of-le l (pow-mono (omega arith))) (λ j _. ⊎-elim (λ k. sym (has-low n x j k)) (λ k. f j k ∙ sym (has-high n (x % 2 ^ n) j l k)) (lt-or-le j n)) in
+    let e : x ≡ x % 2 ^ n =
+    has-ext (m + n) x (x % 2 ^ n) (lt-of-lt-of-le h (pow-mono (omega arith))) (lt-of-lt-of-le l (pow-mono (omega arith)))
+    (λ j _. ⊎-elim (λ k. sym (has-low n x j k)) (λ k. f j k ∙ sym (has-high n (x % 2 ^ n) j l k)) (lt-or-le j n)) in
     omega arith
 
 -- a number of n bits is 0 exactly when none of them is set

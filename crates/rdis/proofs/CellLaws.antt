@@ -30,7 +30,8 @@ module _ (m n : ℕ) (r c r′ c′ : ℕ → ℕ) (same-rows : (i : ℕ) → i 
   unfolding reading
   reading-ext cells = words-ext m n _ _ (λ i j p q. ap (λ t. xor t (bit cells i j)) (flips-ext i j p q))
 
-pub stored-ext : (b : Block) (r c r′ c′ : ℕ → ℕ) → ((i : ℕ) → i < b .rows → r i ≡ r′ i) → ((j : ℕ) → j < b .columns → c j ≡ c′ j) → stored b r c ≡ stored b r′ c′
+pub stored-ext : (b : Block) (r c r′ c′ : ℕ → ℕ) → ((i : ℕ) → i < b .rows → r i ≡ r′ i) → ((j : ℕ) → j < b .columns → c j ≡ c′ j)
+    → stored b r c ≡ stored b r′ c′
 unfolding stored holds
 stored-ext b r c r′ c′ e f =
     words-ext (b .rows) (b .columns) (holds b r c) (holds b r′ c′)
@@ -54,7 +55,8 @@ unfolding reading bit differs holds
 reads-data b r c h (l, below) =
     sym
     (is-words (b .rows) (b .columns) _ (b .data·) l (λ i p. below i)
-    (λ i j p q. read-cell (stuck b i j) (bit (b .data·) i j) (bit (b .values) i j) (flips r c i j) (λ s. wrong-differs b i j s ∙ h i j p q s) ∙ ap (xor (flips r c i j)) (sym (bit-stored b r c i j p q))))
+    (λ i j p q. read-cell (stuck b i j) (bit (b .data·) i j) (bit (b .values) i j) (flips r c i j) (λ s. wrong-differs b i j s ∙ h i j p q s)
+    ∙ ap (xor (flips r c i j)) (sym (bit-stored b r c i j p q))))
 
 pub read-back : ReadBack
 read-back b k l r c e = reads-data b r c (wrong-where-flipped b k l r c e)

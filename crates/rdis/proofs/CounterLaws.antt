@@ -47,15 +47,12 @@ abbrev pub Counts : Block → Bool → Subgrid → Outcome → Type 0
 Counts b w s unmaskable = Unit {0}
 Counts b w s (masked l r c) = Counted b w s l r c
 
-wrong-left : (b : Block) (w : Bool) (s : Subgrid) (i j : ℕ) → i < b .rows → j < b .columns → has (s .rows) i ≡ true → has (s .columns) j ≡ true → left b w s ≡ false → faulty b w i j ≡ false
-wrong-left b w s i j p q x y e = false-when (faulty b w i j) (λ f. clash (left-in b w s (inside (record { row = i; column = j }) x y (p, q, f))) e)
-
 ended : (b : Block) (w : Bool) (s : Subgrid) → left b w s ≡ false → Counts b w s none
 unfolding flips
 ended b w s e = record {
   outside = each (λ d. (i : ℕ) → has (own d s) i ≡ false → tally d (λ _. 0) (λ _. 0) i ≡ 0) (λ i q. refl) (λ j q. refl);
   most = each (λ d. (i : ℕ) → tally d (λ _. 0) (λ _. 0) i ≤ 0) (λ i. omega arith) (λ j. omega arith);
-  odd = λ i j p q x y h. wrong-left b w s i j p q x y e;
+  odd = λ i j p q x y h. false-when (faulty b w i j) (λ f. clash (left-in b w s (inside (record { row = i; column = j }) x y (p, q, f))) e);
 }
 
 module _ (b : Block) (w : Bool) (s : Subgrid) (l : ℕ) (r c : ℕ → ℕ) (h : Counted b (not w) (taken b w s) l r c) where

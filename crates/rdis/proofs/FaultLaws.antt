@@ -15,7 +15,8 @@ use Rattle.rdis.proofs.CounterLaws.{other-sense}
 use Rattle.rdis.proofs.CountLaws.{cells-faults, distinct-cells}
 
 -- the walk up to cell j, where cell i stands again, and then once more from cell i on
-again : {P : Bool → Cell → Type 0} {w : Bool} {d : Way} {n : ℕ} (W : Walk P w d n) (i h j : ℕ) → j ≡ i + twice (suc h) → j ≤ n → W .cell i ≡ W .cell j → Walk P w d (n + twice (suc h))
+again : {P : Bool → Cell → Type 0} {w : Bool} {d : Way} {n : ℕ} (W : Walk P w d n) (i h j : ℕ) → j ≡ i + twice (suc h) → j ≤ n → W .cell i ≡ W .cell j
+    → Walk P w d (n + twice (suc h))
 unfolding prefix
 again {P} {w} {d} {n} W i h j z l e =
     after (prefix j l W) (n + q) (λ m. W .cell (m - q))

@@ -112,7 +112,8 @@ WidthHolds = (k : ℕ) → k ≤ 3 → k < 2 ^ width k
 -- so the stored cells read as the data by the counters from the packed bytes
 abbrev pub ReadBackPacked : Type 0
 ReadBackPacked =
-    (b : Block) (k l : ℕ) (r c : ℕ → ℕ) (w : ℕ) (bs : List ℕ) → Masked b k l r c → k < 2 ^ w → Sized (b .rows) (b .columns) (b .data·) → bs ≡ packed w (inOrder (b .rows) (b .columns) r c)
+    (b : Block) (k l : ℕ) (r c : ℕ → ℕ) (w : ℕ) (bs : List ℕ) → Masked b k l r c → k < 2 ^ w → Sized (b .rows) (b .columns) (b .data·)
+    → bs ≡ packed w (inOrder (b .rows) (b .columns) r c)
     → reading (b .rows) (b .columns) (rowCounter w bs) (columnCounter w (b .rows) bs) (stored b r c) ≡ b .data·
 
 -- ---- 6. value bits at sound cells
