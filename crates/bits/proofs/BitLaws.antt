@@ -64,6 +64,10 @@ has-word (suc n) f j h =
     (λ l. let e : n ≡ j = omega arith in rw (← e) (has-top n (word n f) (f n) (word-lt n f)))
     (lt-or-le j n)
 
+-- a bit that a word has is one of its n, and of those that it is made of
+pub word-out : (n : ℕ) (f : ℕ → Bool) (j : ℕ) → has (word n f) j ≡ true → (j < n) × (f j ≡ true)
+word-out n f j h = ⊎-elim (λ l. (l, sym (has-word n f j l) ∙ h)) (λ l. clash h (has-high n (word n f) j (word-lt n f) l)) (lt-or-le j n)
+
 pub word-ext : (n : ℕ) (f g : ℕ → Bool) → ((j : ℕ) → j < n → f j ≡ g j) → word n f ≡ word n g
 unfolding word
 word-ext zero f g e = refl
@@ -84,6 +88,15 @@ is-word n x f h e = sym (mod-eq-of-lt h) ∙ sym (word-has n x) ∙ word-ext n (
 -- equal bits, equal numbers
 pub has-ext : (n x y : ℕ) → x < 2 ^ n → y < 2 ^ n → ((j : ℕ) → j < n → has x j ≡ has y j) → x ≡ y
 has-ext n x y h k e = is-word n x (has y) h e ∙ word-has n y ∙ mod-eq-of-lt k
+
+-- a number with no bit from bit n on has n bits
+pub none-high : (m n x : ℕ) → x < 2 ^ m → ((j : ℕ) → n ≤ j → has x j ≡ false) → x < 2 ^ n
+none-high m n x h f =
+    let l : x % 2 ^ n < 2 ^ n = mod-lt x (pow-pos n) in
+    let e : x ≡ x % 2 ^ n =
+    has-ext (m + n) x (x % 2 ^ n) (lt-of-lt-of-le h (pow-mono (omega arith))) (lt-of-lt-of-le l (pow-mono (omega arith)))
+    (λ j _. ⊎-elim (λ k. sym (has-low n x j k)) (λ k. f j k ∙ sym (has-high n (x % 2 ^ n) j l k)) (lt-or-le j n)) in
+    omega arith
 
 -- a number of n bits is 0 exactly when none of them is set
 pub some-has : (n x : ℕ) → x < 2 ^ n → (some n (has x) ≡ true) ↔ (x ≢ 0)

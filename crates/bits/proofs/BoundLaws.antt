@@ -2,7 +2,7 @@
 use mathlib.Core.Path.{_≡_, refl, sym, ap, ap₂, subst, _∙_}
 use mathlib.Core.Bool.{Bool, true, false, _||_}
 use mathlib.Core.List.{List, [], _∷_, _++_}
-use mathlib.Core.Logic.{_⊎_, inl, inr, ⊎-elim}
+use mathlib.Core.Logic.{_≢_, _⊎_, inl, inr, ⊎-elim}
 use Prim.Native.Nat.{ℕ, zero, suc, _+_, _≤_, _<_}
 use native.Mathlib.Numerals.{add-one}
 use native.Mathlib.Omega.{arith}
@@ -61,6 +61,19 @@ pub sum-le : (n : ℕ) (f g : ℕ → ℕ) → ((k : ℕ) → k < n → f k ≤ 
 unfolding sum
 sum-le zero f g h = omega arith
 sum-le (suc n) f g h = omega (arith, h n (omega arith), sum-le n f g (λ k l. h k (omega arith)))
+
+-- one more at one place
+pub sum-raise : (n : ℕ) (f g : ℕ → ℕ) (a : ℕ) → a < n → f a ≡ suc (g a) → ((k : ℕ) → k ≢ a → f k ≡ g k) → sum n f ≡ suc (sum n g)
+unfolding sum
+sum-raise zero f g a l e h = absurd (omega arith)
+sum-raise (suc n) f g a l e h = go (ℕ-discrete n a) (λ k. sum-raise n f g a k e h)
+  where
+    go : Dec (n ≡ a) → (a < n → sum n f ≡ suc (sum n g)) → f n + sum n f ≡ suc (g n + sum n g)
+    go (yes p) r =
+        let x : f n ≡ suc (g n) = subst (λ z. f z ≡ suc (g z)) (sym p) e in
+        let y : sum n f ≡ sum n g = sum-ext n f g (λ k l. h k (λ q. absurd (omega arith))) in
+        omega arith
+    go (no p) r = omega (arith, h n p, r (omega arith))
 
 -- ---- list
 

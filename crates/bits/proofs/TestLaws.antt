@@ -63,6 +63,13 @@ xor-twice true false = refl
 xor-twice false true = refl
 xor-twice false false = refl
 
+pub xor-back : (a b : Bool) → xor (xor a b) b ≡ a
+unfolding xor
+xor-back true true = refl
+xor-back true false = refl
+xor-back false true = refl
+xor-back false false = refl
+
 -- ---- a test as a number
 
 pub num-lt : (a : Bool) → num a < 2

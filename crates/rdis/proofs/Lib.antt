@@ -1,0 +1,10 @@
+pub mod Cases
+pub mod Walks
+pub mod Taking
+pub mod LevelLaws
+pub mod CounterLaws
+pub mod CellLaws
+pub mod PackingLaws
+pub mod SoundLaws
+pub mod CountLaws
+pub mod FaultLaws

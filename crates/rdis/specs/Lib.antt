@@ -1,0 +1,6 @@
+pub mod Block
+pub mod Levels
+pub mod Cells
+pub mod Chains
+pub mod Packing
+pub mod Theorems

@@ -1,0 +1,132 @@
+-- What is proved of grid blocks, each statement by itself. b is a block, k the levels allowed, l the levels used, r and c the counters of rows
+-- and columns, w a width in bits. Assumes nothing.
+use Prim.Native.Nat.{ℕ, _+_, _-_, _*_, _/_, _%_, _^_, _<_, _≤_}
+use mathlib.Core.Path.{_≡_}
+use mathlib.Core.Bool.{true, false}
+use mathlib.Core.List.{List}
+use mathlib.Core.Logic.{_↔_}
+use lib.ListN.{length, getD}
+use Rattle.bits.specs.Bits.{has, at, bytes, Below}
+use Rattle.rdis.specs.Block.{Block, Sized, bit, stuck, wrong, stuckCells, faults}
+use Rattle.rdis.specs.Levels.{masked, unmaskable, plan}
+use Rattle.rdis.specs.Cells.{flips, stored, reading}
+use Rattle.rdis.specs.Chains.{HasChain, SomeWrong}
+use Rattle.rdis.specs.Packing.{width, bytesFor, inOrder, packed, unpacked, counter, rowCounter, columnCounter, spareClear}
+
+-- a plan with k levels masks the faults of b by l levels, with these counters
+abbrev pub Masked : Block → ℕ → ℕ → (ℕ → ℕ) → (ℕ → ℕ) → Type 0
+Masked b k l r c = plan b k ≡ masked l r c
+
+-- ---- 1. refusal
+
+-- with k levels a plan fails exactly where there is a chain of 2k + 1 cells
+abbrev pub RefusedByChain : Type 0
+RefusedByChain = (b : Block) (k : ℕ) → (plan b k ≡ unmaskable) ↔ HasChain b (2 * k + 1)
+
+-- ---- 2. the levels used
+
+-- l is at most k; it is 0 exactly if no cell is wrong; else it is the greatest number with a chain of 2l - 1 cells
+pub record LevelsUsed (b : Block) (k l : ℕ) : Type 0 where
+  pub most : l ≤ k
+  pub none : (l ≡ 0) ↔ (SomeWrong b → ⊥)
+  pub some : SomeWrong b → 1 ≤ l
+  pub reached : 1 ≤ l → HasChain b (2 * l - 1)
+  pub greatest : (m : ℕ) → 1 ≤ m → HasChain b (2 * m - 1) → m ≤ l
+
+-- so it is where the plan masks the faults
+abbrev pub LevelsByChain : Type 0
+LevelsByChain = (b : Block) (k l : ℕ) (r c : ℕ → ℕ) → Masked b k l r c → LevelsUsed b k l
+
+-- a chain has a cell
+abbrev pub NoChainEmpty : Type 0
+NoChainEmpty = (b : Block) → HasChain b 0 → ⊥
+
+-- ---- 3. levels and faults
+
+-- twice the levels used are at most F + 1, whatever the mask's words
+abbrev pub LevelsByFaults : Type 0
+LevelsByFaults = (b : Block) (k l : ℕ) (r c : ℕ → ℕ) → Masked b k l r c → 2 * l ≤ faults (b .rows) (b .mask) + 1
+
+-- F counts the stuck cells, if the mask has no bit past the last column
+abbrev pub FaultsAreCells : Type 0
+FaultsAreCells = (m n : ℕ) (mask : List ℕ) → Below (2 ^ n) mask → faults m mask ≡ stuckCells m n mask
+
+-- ---- 4. read-back
+
+-- a stuck cell is wrong exactly where its counters invert it
+abbrev pub WrongWhereFlipped : Type 0
+WrongWhereFlipped =
+    (b : Block) (k l : ℕ) (r c : ℕ → ℕ) → Masked b k l r c → (i j : ℕ) → i < b .rows → j < b .columns → stuck b i j ≡ true → wrong b i j ≡ flips r c i j
+
+-- so the stored cells read as the data
+abbrev pub ReadBack : Type 0
+ReadBack = (b : Block) (k l : ℕ) (r c : ℕ → ℕ) → Masked b k l r c → Sized (b .rows) (b .columns) (b .data·) → reading (b .rows) (b .columns) r c (stored b r c) ≡ b .data·
+
+-- a store leaves a stuck cell as it is, by any counters
+abbrev pub StuckHeld : Type 0
+StuckHeld = (b : Block) (r c : ℕ → ℕ) (i j : ℕ) → i < b .rows → j < b .columns → stuck b i j ≡ true → bit (stored b r c) i j ≡ bit (b .values) i j
+
+-- ---- 5. packing, over any width
+
+-- the bytes bs hold the n counters cs: so many bytes as they need, with the spare bits 0
+pub record Packs (w n : ℕ) (cs bs : List ℕ) : Type 0 where
+  pub size : length bs ≡ bytesFor w n
+  pub bytes : Below 256 bs
+  pub spare : spareClear w n bs ≡ true
+  pub back : unpacked w n bs ≡ cs
+
+-- counters have such bytes, and only the packed ones are
+abbrev pub PackedOnly : Type 0
+PackedOnly = (w n : ℕ) (cs bs : List ℕ) → length cs ≡ n → Below (2 ^ w) cs → Packs w n cs bs ↔ (bs ≡ packed w cs)
+
+-- m bytes have room for n counters exactly if they are so many
+abbrev pub FewestBytes : Type 0
+FewestBytes = (w n m : ℕ) → (w * n ≤ 8 * m) ↔ (bytesFor w n ≤ m)
+
+-- bit k of counter t is bit w t + k of the bytes
+abbrev pub CounterBits : Type 0
+CounterBits = (w t k : ℕ) (bs : List ℕ) → Below 256 bs → k < w → has (counter w bs t) k ≡ at bs (w * t + k)
+
+-- and bit p of packed counters is bit p mod w of counter p / w
+abbrev pub PackedBits : Type 0
+PackedBits = (w : ℕ) (cs : List ℕ) → 0 < w → Below (2 ^ w) cs → packed w cs ≡ bytes (bytesFor w (length cs)) (λ p. has (getD cs (p / w) 0) (p % w))
+
+-- the spare bits are all those after the last counter's
+abbrev pub SpareBits : Type 0
+SpareBits = (w n : ℕ) (bs : List ℕ) → Below 256 bs → (spareClear w n bs ≡ true) ↔ ((p : ℕ) → w * n ≤ p → at bs p ≡ false)
+
+-- the counters of rows and columns that are read from packed bytes are those that went in
+abbrev pub CountersBack : Type 0
+CountersBack =
+    (w m n : ℕ) (r c : ℕ → ℕ) → ((i : ℕ) → i < m → r i < 2 ^ w) → ((j : ℕ) → j < n → c j < 2 ^ w)
+    → ((i : ℕ) → i < m → rowCounter w (packed w (inOrder m n r c)) i ≡ r i) × ((j : ℕ) → j < n → columnCounter w m (packed w (inOrder m n r c)) j ≡ c j)
+
+-- no counter of a plan is above the levels used
+abbrev pub CountersAtMost : Type 0
+CountersAtMost = (b : Block) (k l : ℕ) (r c : ℕ → ℕ) → Masked b k l r c → ((i : ℕ) → r i ≤ l) × ((j : ℕ) → c j ≤ l)
+
+-- the levels allowed fit their width
+abbrev pub WidthHolds : Type 0
+WidthHolds = (k : ℕ) → k ≤ 3 → k < 2 ^ width k
+
+-- so the stored cells read as the data by the counters from the packed bytes
+abbrev pub ReadBackPacked : Type 0
+ReadBackPacked =
+    (b : Block) (k l : ℕ) (r c : ℕ → ℕ) (w : ℕ) (bs : List ℕ) → Masked b k l r c → k < 2 ^ w → Sized (b .rows) (b .columns) (b .data·)
+    → bs ≡ packed w (inOrder (b .rows) (b .columns) r c)
+    → reading (b .rows) (b .columns) (rowCounter w bs) (columnCounter w (b .rows) bs) (stored b r c) ≡ b .data·
+
+-- ---- 6. value bits at sound cells
+
+-- the block with other values
+abbrev pub withValues : Block → List ℕ → Block
+withValues b v = record { rows = b .rows; columns = b .columns; data· = b .data·; mask = b .mask; values = v }
+
+-- two blocks with the same plan, and the same cells by any counters
+pub record SameWrite (b d : Block) : Type 0 where
+  pub plans : (k : ℕ) → plan b k ≡ plan d k
+  pub cells : (r c : ℕ → ℕ) → stored b r c ≡ stored d r c
+
+-- so are blocks whose values differ at sound cells alone
+abbrev pub SoundIgnored : Type 0
+SoundIgnored = (b : Block) (v : List ℕ) → ((i j : ℕ) → i < b .rows → j < b .columns → stuck b i j ≡ true → bit (b .values) i j ≡ bit v i j) → SameWrite b (withValues b v)
