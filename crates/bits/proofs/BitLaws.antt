@@ -11,11 +11,11 @@ use borrow.Author.Tests.{eqb-true}
 use lib.Arith.{lt-one, lt-of-le-ne}
 use lib.Bits.{bitAnd, bitOr, bitXor, differ, and-step, or-step, xor-step, and-shr, or-shr, xor-shr, or-shifted}
 use lib.Count.{ones, ones-step}
-use lib.Dec.{eqb}
+use lib.Dec.{eqb, leb}
 use lib.Pow.{pow-pos, pow-mono, pow-lt, field, mod-mod-pow, mod-pow-add, high, low, shl-exact, shr-shr, ones-split, ones-lt}
 use Rattle.bits.specs.Bits.{num, has, word, some, sum}
-use Rattle.bits.proofs.TestLaws.{clash, false-when, lt-or-le, num-lt, eqb-num, num-eqb, eqb-same}
-use Rattle.bits.proofs.BoundLaws.{some-in, some-out, sum-ext, sum-front}
+use Rattle.bits.proofs.TestLaws.{clash, false-when, lt-or-le, leb-iff, iff-false, and-iff, num-lt, eqb-num, num-eqb, eqb-same}
+use Rattle.bits.proofs.BoundLaws.{some-in, some-out, some-iff, sum-ext, sum-front}
 
 -- ---- where a number has bits
 
@@ -97,6 +97,30 @@ none-high m n x h f =
     has-ext (m + n) x (x % 2 ^ n) (lt-of-lt-of-le h (pow-mono (omega arith))) (lt-of-lt-of-le l (pow-mono (omega arith)))
     (λ j _. ⊎-elim (λ k. sym (has-low n x j k)) (λ k. f j k ∙ sym (has-high n (x % 2 ^ n) j l k)) (lt-or-le j n)) in
     omega arith
+
+lt-pow : (x : ℕ) → x < 2 ^ x
+lt-pow zero = pow-pos 0
+lt-pow (suc x) = omega (arith, lt-pow x, pow-suc 2 x)
+
+-- a number has a bit from bit n on exactly if it is none of n bits
+pub high-bit : (n x : ℕ) → (2 ^ n ≤ x) ↔ ((j : ℕ) × (n ≤ j) × (has x j ≡ true))
+high-bit n x = (λ h. go h (some x (λ j. leb n j && has x j)) refl, λ (j, l, p). ⊎-elim (λ h. clash p (has-high n x j h l)) (λ h. h) (lt-or-le x (2 ^ n)))
+  where
+    found : (some x (λ j. leb n j && has x j) ≡ true) ↔ ((j : ℕ) × (j < x) × ((n ≤ j) × (has x j ≡ true)))
+    found = some-iff x _ _ (λ j. and-iff (leb n j) (leb-iff n j) (has x j) (λ h. h, λ h. h))
+
+    go : 2 ^ n ≤ x → (t : Bool) → some x (λ j. leb n j && has x j) ≡ t → (j : ℕ) × (n ≤ j) × (has x j ≡ true)
+    go h true e = let (j, k, (p, q)) = found .0 e in (j, p, q)
+    go h false e =
+        let low : x < 2 ^ n = none-high x n x (lt-pow x) (λ j p. ⊎-elim (λ q. false-when _ (λ y. iff-false _ found e (j, q, (p, y)))) (has-high x x j (lt-pow x)) (lt-or-le j x)) in
+        absurd (omega arith)
+
+-- a word of m bits, none of them from n on, is one of n bits
+pub word-narrow : (n m : ℕ) (f g : ℕ → Bool) → n ≤ m → ((j : ℕ) → j < n → f j ≡ g j) → ((j : ℕ) → n ≤ j → j < m → f j ≡ false) → word m f ≡ word n g
+word-narrow n m f g l e z =
+    is-word n (word m f) g
+    (none-high m n (word m f) (word-lt m f) (λ j p. ⊎-elim (λ q. has-word m f j q ∙ z j p q) (λ q. has-high m (word m f) j (word-lt m f) q) (lt-or-le j m)))
+    (λ j p. has-word m f j (omega arith) ∙ e j p)
 
 -- a number of n bits is 0 exactly when none of them is set
 pub some-has : (n x : ℕ) → x < 2 ^ n → (some n (has x) ≡ true) ↔ (x ≢ 0)
@@ -188,7 +212,8 @@ pub word-more : (n : ℕ) (f : ℕ → Bool) (t : Bool) → t ≡ f n → bitOr 
 unfolding word
 word-more n f t e = or-shifted (num t) n (word n f) (word-lt n f) ∙ rw (add-one, e)
 
-word-ones : (n : ℕ) → word n (λ _. true) ≡ 2 ^ n - 1
+-- all of n bits
+pub word-ones : (n : ℕ) → word n (λ _. true) ≡ 2 ^ n - 1
 unfolding word
 word-ones zero = refl
 word-ones (suc n) = rw (word-ones n, pow-suc) (omega (arith, pow-pos n))

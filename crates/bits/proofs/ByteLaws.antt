@@ -10,7 +10,7 @@ use lib.Pow.{pow-pos}
 use Rattle.bits.specs.Bits.{has, word, words, at, bytes, Below}
 use Rattle.bits.proofs.TestLaws.{lt-or-le}
 use Rattle.bits.proofs.BoundLaws.{length-list, getD-list, list-ext, list-getD, list-more, list-done}
-use Rattle.bits.proofs.BitLaws.{has-zero, has-word, word-lt, word-ext, is-word}
+use Rattle.bits.proofs.BitLaws.{has-zero, has-word, word-lt, word-ext, word-narrow, is-word}
 
 -- past the end a list of numbers shows 0
 pub past-end : (xs : List ℕ) (i : ℕ) → length xs ≤ i → getD xs i 0 ≡ 0
@@ -40,6 +40,12 @@ has-words m n f i j h l = rw (getD-words m n f i h) (has-word n (f i) j l)
 pub words-ext : (m n : ℕ) (f g : ℕ → ℕ → Bool) → ((i j : ℕ) → i < m → j < n → f i j ≡ g i j) → words m n f ≡ words m n g
 unfolding words
 words-ext m n f g e = list-ext m (λ i. word n (f i)) (λ i. word n (g i)) (λ i h. word-ext n (f i) (g i) (λ j l. e i j h l))
+
+-- words of m bits, none of them from n on, are words of n bits
+pub words-narrow : (h n m : ℕ) (f g : ℕ → ℕ → Bool) → n ≤ m → ((i j : ℕ) → i < h → j < n → f i j ≡ g i j) → ((i j : ℕ) → i < h → n ≤ j → j < m → f i j ≡ false)
+    → words h m f ≡ words h n g
+unfolding words
+words-narrow h n m f g l e z = list-ext h (λ i. word m (f i)) (λ i. word n (g i)) (λ i k. word-narrow n m (f i) (g i) l (λ j p. e i j k p) (λ j p q. z i j k p q))
 
 -- a list of m words of n bits is made of its bits
 pub is-words : (m n : ℕ) (f : ℕ → ℕ → Bool) (xs : List ℕ) → length xs ≡ m → ((i : ℕ) → i < m → getD xs i 0 < 2 ^ n)

@@ -1,12 +1,12 @@
 -- Laws of tests: what true and false exclude, and the Boolean operations. Assumes nothing.
 use mathlib.Core.Path.{_≡_, refl, sym, ap, _∙_}
-use mathlib.Core.Bool.{Bool, true, false, not, xor, cond, _&&_, _||_}
-use mathlib.Core.Logic.{_⊎_, inl, inr}
+use mathlib.Core.Bool.{Bool, true, false, not, xor, _&&_, _||_, or-true}
+use mathlib.Core.Logic.{_↔_, _⊎_, inl, inr, ⊎-elim}
 use Prim.Native.Nat.{ℕ, zero, suc, _<_, _≤_}
 use native.Mathlib.Omega.{arith}
 use native.Mathlib.Decide.{decLt}
-use lib.Dec.{eqb}
-use borrow.Author.Tests.{eq-eqb}
+use lib.Dec.{eqb, leb, ltb}
+use borrow.Author.Tests.{eqb-true, eq-eqb, leb-true, le-leb, ltb-true, lt-ltb, not-true}
 use Rattle.bits.specs.Bits.{num}
 
 -- no test is both
@@ -42,6 +42,12 @@ and-left false b h = h
 pub and-right : (a b : Bool) → a && b ≡ true → b ≡ true
 and-right true b h = h
 and-right false b h = clash h refl
+
+-- ---- or
+
+pub or-out : (a b : Bool) → a || b ≡ true → (a ≡ true) ⊎ (b ≡ true)
+or-out true b h = inl refl
+or-out false b h = inr h
 
 -- ---- exclusive or
 
@@ -87,3 +93,35 @@ num-eqb (suc (suc x)) h = absurd (omega arith)
 
 pub eqb-same : (x : ℕ) → eqb x x ≡ true
 eqb-same x = eq-eqb x x refl
+
+-- ---- a test and the fact that it tests
+
+pub leb-iff : (x y : ℕ) → (leb x y ≡ true) ↔ (x ≤ y)
+leb-iff x y = (leb-true x y, le-leb x y)
+
+pub ltb-iff : (x y : ℕ) → (ltb x y ≡ true) ↔ (x < y)
+ltb-iff x y = (ltb-true x y, lt-ltb x y)
+
+pub eqb-iff : (x y : ℕ) → (eqb x y ≡ true) ↔ (x ≡ y)
+eqb-iff x y = (eqb-true x y, eq-eqb x y)
+
+module _ {A : Type 0} (a : Bool) (f : (a ≡ true) ↔ A) where
+  pub iff-false : a ≡ false → A → ⊥
+  iff-false e x = clash (f .1 x) e
+
+  pub false-iff : (A → ⊥) → a ≡ false
+  false-iff n = false-when a (λ h. n (f .0 h))
+
+  -- what is tested is so if it is not false
+  pub iff-stable : ((A → ⊥) → ⊥) → A
+  iff-stable n = ⊎-elim (λ h. f .0 h) (λ e. absurd (n (iff-false e))) (true-or-false a)
+
+  pub not-iff : (not a ≡ true) ↔ (A → ⊥)
+  not-iff = (λ h. iff-false (not-true a h), λ n. rw (false-iff n))
+
+  module _ {B : Type 0} (b : Bool) (g : (b ≡ true) ↔ B) where
+    pub and-iff : (a && b ≡ true) ↔ (A × B)
+    and-iff = (λ h. (f .0 (and-left a b h), g .0 (and-right a b h)), λ (x, y). and-in (f .1 x) (g .1 y))
+
+    pub or-iff : (a || b ≡ true) ↔ (A ⊎ B)
+    or-iff = (λ h. ⊎-elim (λ p. inl (f .0 p)) (λ p. inr (g .0 p)) (or-out a b h), ⊎-elim (λ x. rw (f .1 x)) (λ y. rw (g .1 y) (or-true a)))

@@ -158,7 +158,7 @@ module _ (b : Block) (k l : ℕ) (r c : ℕ → ℕ) (e : Masked b k l r c) wher
       let most = levels-by-chain b k l r c e .most in
       (λ i. omega (arith, rs i), λ j. omega (arith, cs j))
 
-  plan-below : (v : ℕ) → k < v → Below v (inOrder (b .rows) (b .columns) r c)
+  pub plan-below : (v : ℕ) → k < v → Below v (inOrder (b .rows) (b .columns) r c)
   plan-below v h = let (rs, cs) = plan-lt v h in in-order-below (b .rows) (b .columns) r c v (omega arith) (λ i _. rs i) (λ j _. cs j)
 
   -- the packed counters are as a read wants them

@@ -1,0 +1,139 @@
+-- Laws of the levels one after the other: what each way to return says of the levels from a subgrid on. Assumes nothing.
+use mathlib.Core.Path.{_≡_, refl, sym, ap, ap₂, subst, _∙_}
+use mathlib.Core.Bool.{Bool, true, false, not, _&&_}
+use mathlib.Core.List.{List}
+use mathlib.Core.Logic.{_≢_}
+use Prim.Native.Nat.{ℕ, zero, suc, _+_, _-_, _^_, _≤_, _<_, min}
+use native.Mathlib.Omega.{arith}
+use native.Mathlib.Numerals.{add-one}
+use lib.ListN.{length, getD, set, length-set, replicate}
+use lib.Seq.{getD-set-same, getD-set-other}
+use Rattle.bits.specs.Bits.{num, sum, has, word}
+use Rattle.bits.proofs.TestLaws.{clash, false-when}
+use Rattle.bits.proofs.BoundLaws.{sum-ext}
+use Rattle.bits.proofs.BitLaws.{word-lt}
+use Rattle.rdis.specs.Levels.{Subgrid, whole, taken, left, Outcome, masked, unmaskable, more, levels, plan}
+use Rattle.rdis.specs.Chains.{byRow, byColumn}
+use Rattle.rdis.proofs.LevelLaws.{levels-none, levels-stop, levels-next, left-rows}
+use Rattle.rdis.proofs.CounterLaws.{Counts as Tallied, levels-counted}
+use Rattle.grid.specs.declared.levels.Sub.{Sub}
+use Rattle.grid.specs.declared.levels.Taken.{Taken}
+use Rattle.grid.specs.Steps.{blockOf, subgrid, times, crossings, Counts, Follows, Planned}
+
+-- ---- one set more
+
+times-more : (xs : List ℕ) (n x i : ℕ) → n < length xs → times (set xs n x) (n + 1) i ≡ num (has x i) + times xs n i
+unfolding times sum
+times-more xs n x i h =
+    rw add-one
+    (ap₂ _+_ (ap (λ y. num (has y i)) (getD-set-same xs n x 0 h))
+    (sum-ext n (λ m. num (has (getD (set xs n x) m 0) i)) (λ m. num (has (getD xs m 0) i)) (λ m l. ap (λ y. num (has y i)) (getD-set-other xs n m x 0 (λ e. omega arith)))))
+
+crossings-more : (rs cs : List ℕ) (n x y i j : ℕ) → n < length rs → n < length cs
+    → crossings (set rs n x) (set cs n y) (n + 1) i j ≡ num (has x i && has y j) + crossings rs cs n i j
+unfolding crossings sum
+crossings-more rs cs n x y i j p q =
+    rw add-one
+    (ap₂ _+_ (ap₂ (λ a b. num (has a i && has b j)) (getD-set-same rs n x 0 p) (getD-set-same cs n y 0 q))
+    (sum-ext n (λ m. num (has (getD (set rs n x) m 0) i && has (getD (set cs n y) m 0) j)) (λ m. num (has (getD rs m 0) i && has (getD cs m 0) j))
+    (λ m l. ap₂ (λ a b. num (has a i && has b j)) (getD-set-other rs n m x 0 (λ e. omega arith)) (getD-set-other cs n m y 0 (λ e. omega arith)))))
+
+-- lines that were not taken have counted nothing inside
+min-more : (a b : Bool) (r c : ℕ) → (a ≡ false → r ≡ 0) → (b ≡ false → c ≡ 0) → num (a && b) + min r c ≡ min (num a + r) (num b + c)
+min-more true true r c p q = omega arith
+min-more true false r c p q = omega (arith, q refl)
+min-more false b r c p q = omega (arith, p refl)
+
+-- ---- the levels inside, and one more
+
+abbrev deeper : Sub → Taken → Taken
+deeper t r = record { ended = r .ended; used = r .used + 1; rows = set (r .rows) (r .used) (t .rows); columns = set (r .columns) (r .used) (t .columns) }
+
+more-lost : (t : Subgrid) (r : Taken) (o : Outcome) → r .ended ≡ false → Follows r o → Follows r (more t o)
+more-lost t r (masked l rc cc) e f = clash (f .ended) e
+more-lost t r unmaskable e f = f
+
+more-masked : (n : ℕ) (d mask values : List ℕ) (w : Bool) (t : Sub) (r : Taken) (o : Outcome) → r .ended ≡ true → r .used < length (r .rows) → r .used < length (r .columns)
+    → Tallied (blockOf n d mask values) w (subgrid t) o → Follows r o → Follows (deeper t r) (more (subgrid t) o)
+more-masked n d mask values w t r unmaskable e p q h f = clash e f
+more-masked n d mask values w t r (masked l rc cc) e p q h f = record {
+  ended = e;
+  used = omega (arith, f .used);
+  rows = λ i. times-more (r .rows) (r .used) (t .rows) i p ∙ ap (λ m. num (has (t .rows) i) + m) (f .rows i);
+  columns = λ j. times-more (r .columns) (r .used) (t .columns) j q ∙ ap (λ m. num (has (t .columns) j) + m) (f .columns j);
+  crossed = λ i j.
+      crossings-more (r .rows) (r .columns) (r .used) (t .rows) (t .columns) i j p q ∙ ap (λ m. num (has (t .rows) i && has (t .columns) j) + m) (f .crossed i j)
+      ∙ min-more (has (t .rows) i) (has (t .columns) j) (rc i) (cc j) (h .outside byRow i) (h .outside byColumn j);
+}
+
+-- ---- the ways to return
+
+abbrev empty : Bool → Taken
+empty e = record { ended = e; used = 0; rows = replicate 8 0; columns = replicate 8 0 }
+
+module _ (d mask values : List ℕ) (w : Bool) (s t : Sub) (e : (n : ℕ) → s .columns < 2 ^ n → subgrid t ≡ taken (blockOf n d mask values) w (subgrid s)) where
+  rows-taken : (n : ℕ) → s .columns < 2 ^ n → t .rows ≡ taken (blockOf n d mask values) w (subgrid s) .rows
+  rows-taken n h = ap (λ x. x .rows) (e n h)
+
+  narrow : (n : ℕ) → s .columns < 2 ^ n → t .columns < 2 ^ n
+  unfolding taken
+  narrow n h = rw (ap (λ x. x .columns) (e n h)) (word-lt n _)
+
+  some-left : (n : ℕ) → s .columns < 2 ^ n → (t .rows ≡ 0 → ⊥) → left (blockOf n d mask values) w (subgrid s) ≡ true
+  some-left n h z = left-rows (blockOf n d mask values) w (subgrid s) .1 (λ q. z (rows-taken n h ∙ q))
+
+  pub planned-none : (k : ℕ) → t .rows ≡ 0 → Planned d mask values s w k (empty true)
+  unfolding times crossings sum
+  planned-none k z = record {
+    few = omega arith;
+    rowSets = refl;
+    columnSets = refl;
+    follows = λ n h.
+        let b = blockOf n d mask values in
+        let f = false-when (left b w (subgrid s)) (λ q. left-rows b w (subgrid s) .0 q (sym (rows-taken n h) ∙ z)) in
+        rw (levels-none b k w (subgrid s) f) (record { ended = refl; used = refl; rows = λ i. refl; columns = λ j. refl; crossed = λ i j. refl });
+  }
+
+  pub planned-stop : (k : ℕ) → (t .rows ≡ 0 → ⊥) → k ≡ 0 → Planned d mask values s w k (empty false)
+  planned-stop k z e₀ = record {
+    few = omega arith;
+    rowSets = refl;
+    columnSets = refl;
+    follows = λ n h. rw (e₀, levels-stop (blockOf n d mask values) w (subgrid s) (some-left n h z)) refl;
+  }
+
+  next : (n k : ℕ) → s .columns < 2 ^ n → (t .rows ≡ 0 → ⊥) → (k ≡ 0 → ⊥)
+      → levels (blockOf n d mask values) k w (subgrid s) ≡ more (subgrid t) (levels (blockOf n d mask values) (k - 1) (not w) (subgrid t))
+  next n zero h z y = absurd (y refl)
+  next n (suc k) h z y =
+      let q : suc k - 1 ≡ k = omega arith in
+      levels-next (blockOf n d mask values) k w (subgrid s) (some-left n h z) ∙ rw (q, e n h)
+
+  pub planned-lost : (k : ℕ) (r : Taken) → (t .rows ≡ 0 → ⊥) → (k ≡ 0 → ⊥) → r .ended ≡ false → Planned d mask values t (not w) (k - 1) r → Planned d mask values s w k r
+  planned-lost k r z y f p = record {
+    few = omega (arith, p .few);
+    rowSets = p .rowSets;
+    columnSets = p .columnSets;
+    follows = λ n h. rw (next n k h z y) (more-lost (subgrid t) r (levels (blockOf n d mask values) (k - 1) (not w) (subgrid t)) f (p .follows n (narrow n h)));
+  }
+
+  pub planned-more : (k : ℕ) (r : Taken) → k ≤ 8 → (t .rows ≡ 0 → ⊥) → (k ≡ 0 → ⊥) → r .ended ≡ true → Planned d mask values t (not w) (k - 1) r
+      → Planned d mask values s w k (deeper t r)
+  planned-more k r m z y f p = record {
+    few = omega (arith, p .few);
+    rowSets = length-set (r .rows) (r .used) (t .rows) ∙ p .rowSets;
+    columnSets = length-set (r .columns) (r .used) (t .columns) ∙ p .columnSets;
+    follows = λ n h.
+        let b = blockOf n d mask values in
+        let o = levels b (k - 1) (not w) (subgrid t) in
+        rw (next n k h z y)
+        (more-masked n d mask values (not w) t r o f (omega (arith, p .few, p .rowSets)) (omega (arith, p .few, p .columnSets)) (levels-counted b (k - 1) (not w) (subgrid t)) (p .follows n (narrow n h)));
+  }
+
+-- from the whole grid on
+pub planned-whole : (n k : ℕ) (d mask values : List ℕ) (s : Sub) (t : Taken) → s .rows ≡ word (length d) (λ _. true) → s .columns ≡ word n (λ _. true)
+    → Planned d mask values s true k t → (t .used ≤ k) × Follows t (plan (blockOf n d mask values) k)
+unfolding plan whole
+planned-whole n k d mask values s t p q h =
+    let e : subgrid s ≡ whole (blockOf n d mask values) = λ i. record { rows = p i; columns = q i } in
+    (h .few, subst (λ x. Follows t (levels (blockOf n d mask values) k true x)) e (h .follows n (rw q (word-lt n (λ _. true)))))

@@ -1,0 +1,91 @@
+-- Laws of a write by the sets that the levels took: its cells and its counters are those of the plan. Assumes nothing.
+use mathlib.Core.Path.{_≡_, refl, sym, ap, ap₂, _∙_}
+use mathlib.Core.Bool.{Bool, true, false, not, xor, cond, _||_}
+use mathlib.Core.List.{List, _++_}
+use Prim.Native.Nat.{ℕ, _+_, _%_, _^_, _≤_, _<_, min}
+use native.Mathlib.Omega.{arith}
+use lib.Dec.{eqb}
+use lib.ListN.{length, getD, take}
+use Rattle.bits.specs.Bits.{list, words, Below}
+use Rattle.bits.proofs.TestLaws.{clash, xor-false}
+use Rattle.bits.proofs.BoundLaws.{list-ext}
+use Rattle.bits.proofs.BitLaws.{has-high}
+use Rattle.bits.proofs.ByteLaws.{words-narrow}
+use Rattle.rdis.specs.Block.{Block, bit, stuck, faults}
+use Rattle.rdis.specs.Levels.{Outcome, masked, unmaskable, plan}
+use Rattle.rdis.specs.Cells.{flips, holds, stored}
+use Rattle.rdis.specs.Packing.{width, inOrder, packed}
+use Rattle.rdis.specs.Theorems.{Masked}
+use Rattle.rdis.proofs.CounterLaws.{counters-outside}
+use Rattle.rdis.proofs.PackingLaws.{plan-below, width-holds}
+use Rattle.grid.specs.declared.WriteAnswer.{WriteAnswer}
+use Rattle.grid.specs.declared.levels.Taken.{Taken}
+use Rattle.grid.specs.Calls.{past, writePast}
+use Rattle.grid.specs.Promises.{Write}
+use Rattle.grid.specs.Steps.{blockOf, WriteSized, times, crossings, Counts, Follows, heldBy}
+use Rattle.grid.proofs.RefusalLaws.{in-range, within}
+use Rattle.grid.proofs.Returns.{accepted-write}
+
+-- ---- how the levels ended
+
+pub lost : (t : Taken) (o : Outcome) → Follows t o → t .ended ≡ false → o ≡ unmaskable
+lost t (masked l r c) f e = clash (f .ended) e
+lost t unmaskable f e = refl
+
+pub record Found (t : Taken) (o : Outcome) : Type 0 where
+  pub l : ℕ
+  pub r : ℕ → ℕ
+  pub c : ℕ → ℕ
+  pub masks : o ≡ masked l r c
+  pub counts : Counts t l r c
+
+pub found : (t : Taken) (o : Outcome) → Follows t o → t .ended ≡ true → Found t o
+found t (masked l r c) f e = record { l = l; r = r; c = c; masks = refl; counts = f }
+found t unmaskable f e = clash e f
+
+none-of : (a b c : Bool) → a || (b || c) ≡ false → (a ≡ false) × (b ≡ false) × (c ≡ false)
+none-of true b c h = clash refl h
+none-of false true c h = clash refl h
+none-of false false c h = (refl, refl, h)
+
+-- ---- cells and counters, by the sets and by the plan
+
+module _ (n k : ℕ) (d mask values : List ℕ) (t : Taken) (f : Found t (plan (blockOf n d mask values) k)) where
+  pub counters-plan : inOrder (length d) n (times (t .rows) (t .used)) (times (t .columns) (t .used)) ≡ inOrder (length d) n (f .r) (f .c)
+  counters-plan =
+      ap₂ _++_ (list-ext (length d) (times (t .rows) (t .used)) (f .r) (λ i _. f .counts .rows i)) (list-ext n (times (t .columns) (t .used)) (f .c) (λ j _. f .counts .columns j))
+
+  pub counters-fit : k ≤ 3 → Below (2 ^ width k) (inOrder (length d) n (times (t .rows) (t .used)) (times (t .columns) (t .used)))
+  counters-fit h = rw counters-plan (plan-below (blockOf n d mask values) k (f .l) (f .r) (f .c) (f .masks) (2 ^ width k) (width-holds k h))
+
+  module _ (narrow : n ≤ 64) (hd : Below (2 ^ n) d) (hm : Below (2 ^ n) mask) where
+    cell-inside : (i j : ℕ) → heldBy d mask values (t .rows) (t .columns) (t .used) i j ≡ holds (blockOf n d mask values) (f .r) (f .c) i j
+    unfolding heldBy holds flips
+    cell-inside i j = ap (λ x. cond (bit mask i j) (bit values i j) (xor (eqb (x % 2) 1) (bit d i j))) (f .counts .crossed i j)
+
+    cell-outside : (i j : ℕ) → n ≤ j → heldBy d mask values (t .rows) (t .columns) (t .used) i j ≡ false
+    unfolding heldBy bit
+    cell-outside i j h =
+        let z : f .c j ≡ 0 = counters-outside (blockOf n d mask values) k (f .l) (f .r) (f .c) (f .masks) .1 j h in
+        let e : crossings (t .rows) (t .columns) (t .used) i j ≡ 0 = f .counts .crossed i j ∙ omega arith in
+        rw (has-high n (getD mask i 0) j (hm i) h, e, has-high n (getD d i 0) j (hd i) h) (xor-false false)
+
+    pub cells-plan : words (length d) 64 (heldBy d mask values (t .rows) (t .columns) (t .used)) ≡ stored (blockOf n d mask values) (f .r) (f .c)
+    unfolding stored
+    cells-plan =
+        words-narrow (length d) n 64 (heldBy d mask values (t .rows) (t .columns) (t .used)) (holds (blockOf n d mask values) (f .r) (f .c)) narrow (λ i j _ _. cell-inside i j) (λ i j _ h _. cell-outside i j h)
+
+-- ---- the write
+
+pub wrote : (n k : ℕ) (d mask values cells counters : List ℕ) → WriteSized n k d mask values cells counters → writePast (blockOf n d mask values) ≡ false
+    → (t : Taken) → Follows t (plan (blockOf n d mask values) k) → t .ended ≡ true
+    → (a : WriteAnswer) (cells′ counters′ put : List ℕ) → a .number ≡ 0 → a .levels ≡ t .used → a .faults ≡ faults (length mask) mask
+    → cells′ ≡ words (length d) 64 (heldBy d mask values (t .rows) (t .columns) (t .used))
+    → put ≡ inOrder (length d) n (times (t .rows) (t .used)) (times (t .columns) (t .used)) → counters′ ≡ packed (width k) put
+    → Write (blockOf n d mask values) k cells counters a cells′ counters′
+wrote n k d mask values cells counters s p t h e a cells′ counters′ put z x y u v w =
+    let b = blockOf n d mask values in
+    let f = found t (plan b k) h e in
+    let (pd, pm, _) = none-of (past n d) (past n mask) (past n values) p in
+    accepted-write b k cells counters a (s .ranges) refl (s .masks) (s .stuckAt) (s .room) (s .sizes) p (f .l) (f .r) (f .c) (f .masks) cells′ counters′ z (x ∙ f .counts .used) (y ∙ ap (λ m. faults m mask) (s .masks))
+    (u ∙ cells-plan n k d mask values t f (in-range (length d) n k .0 (s .ranges) .columns .1) (within n d .0 pd) (within n mask .0 pm)) (w ∙ ap (packed (width k)) (v ∙ counters-plan n k d mask values t f))

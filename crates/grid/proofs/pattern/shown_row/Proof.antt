@@ -1,0 +1,53 @@
+use mathlib.Core.Path.{_≡_, refl, ap, ap₂, _∙_}
+use mathlib.Core.Bool.{Bool, xor}
+use Prim.Native.Nat.{ℕ, _≤_, _-_, _+_, _%_, min}
+use native.Mathlib.Omega.{arith}
+use lib.Bits.{bitOr}
+use lib.Dec.{eqb}
+use lib.ListN.{getD}
+use Rattle.bits.specs.Bits.{has, word}
+use Rattle.bits.proofs.BitLaws.{word-more}
+use Rattle.grid.proofs.pattern.shown_row.Statement.{statement}
+use Rattle.grid.proofs.pattern.shown_row.Tie as tie
+
+abbrev Inv-loop : tie.InvT-loop
+Inv-loop w columns r rows counters v₀ j₀ v j = (j ≤ columns) × (v ≡ word j (λ j. xor (eqb (min r (getD counters (rows + j) 0) % 2) 1) (has w j)))
+
+abbrev μ-loop : tie.MeasureT-loop
+μ-loop w columns r rows counters v₀ j₀ v j = columns - j
+
+loop-holds : tie.Need-loop-holds Inv-loop μ-loop
+unfolding word
+loop-holds c = (omega arith, refl)
+
+pub shown-row-spec : {M : Type 1} → statement M
+shown-row-spec =
+    tie.close
+    (tie.spec
+    Inv-loop
+    μ-loop
+    loop-holds
+    -- add-shown
+    (λ c. omega arith)
+    -- array-read-shown
+    (λ c. omega arith)
+    -- shown-requires
+    (λ c κs. omega arith)
+    -- mark-if-requires
+    (λ c κs. omega arith)
+    -- add-j
+    (λ c. omega arith)
+    -- loop-less
+    (λ c. omega arith)
+    -- loop-again
+    (λ c.
+    let a = c .before .before .before .before .args in
+    let l = c .before .before .before .loop in
+    let f : ℕ → Bool = λ j. xor (eqb (min (a .r) (getD (a .t4) (a .rows + j) 0) % 2) 1) (has (a .w) j) in
+    (omega arith, ap₂ bitOr (c .mark-if .ensures) (l .inv .1) ∙ word-more (l .j) f (c .before .shown .result) (c .before .shown .ensures)))
+    -- returns
+    (λ c.
+    let a = c .before .before .args in
+    let l = c .before .loop in
+    let e : l .j ≡ a .columns = omega arith in
+    l .inv .1 ∙ ap (λ n. word n (λ j. xor (eqb (min (a .r) (getD (a .t4) (a .rows + j) 0) % 2) 1) (has (a .w) j))) e))

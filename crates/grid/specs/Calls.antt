@@ -1,0 +1,86 @@
+-- What the two calls on grid blocks answer: the refusal that applies, and the blocks and counters they speak of. Assumes nothing.
+use Prim.Native.Nat.{ℕ, _+_, _^_}
+use mathlib.Core.Bool.{Bool, not, cond, _&&_, _||_}
+use mathlib.Core.List.{List}
+use lib.ListN.{length, getD}
+use lib.Dec.{eqb, leb, ltb}
+use Rattle.bits.specs.Bits.{some}
+use Rattle.rdis.specs.Block.{Block}
+use Rattle.rdis.specs.Levels.{Outcome, masked, unmaskable, plan}
+use Rattle.rdis.specs.Packing.{width, bytesFor, counter, spareClear}
+
+-- ---- what is judged. m are the rows, n the columns, k is K
+
+-- from the first to the last
+abbrev pub between : ℕ → ℕ → ℕ → Bool
+between first last x = leb first x && leb x last
+
+-- refusal 1 does not apply
+unfoldable pub inRange : ℕ → ℕ → ℕ → Bool
+inRange m n k = between 1 64 m && (between 1 64 n && between 1 3 k)
+
+-- a buffer of cells and one of counters, of these lengths, are as long as they should be
+unfoldable pub sized : ℕ → ℕ → ℕ → ℕ → ℕ → Bool
+sized m n k cells counters = eqb cells m && eqb counters (bytesFor (width k) (m + n))
+
+-- a word has a bit past the last column
+unfoldable pub past : ℕ → List ℕ → Bool
+past n ws = some (length ws) (λ i. leb (2 ^ n) (getD ws i 0))
+
+-- ---- the number of a read: of the output only the length counts
+
+-- refusal 2 does not apply
+abbrev pub readSized : ℕ → ℕ → ℕ → ℕ → ℕ → ℕ → Bool
+readSized m n k cells counters out = sized m n k cells counters && eqb out m
+
+-- refusal 3 applies: a cell's bit past the last column, or a spare bit of the counters
+abbrev pub readPast : ℕ → ℕ → ℕ → List ℕ → List ℕ → Bool
+readPast m n k cells counters = past n cells || not (spareClear (width k) (m + n) counters)
+
+-- refusal 4 applies: one of the counters that the bytes hold is above K
+unfoldable pub above : ℕ → ℕ → ℕ → List ℕ → Bool
+above m n k counters = some (m + n) (λ t. ltb k (counter (width k) counters t))
+
+unfoldable pub readNumber : ℕ → ℕ → ℕ → List ℕ → List ℕ → ℕ → ℕ
+readNumber m n k cells counters out =
+    cond (not (inRange m n k)) 1
+    (cond (not (readSized m n k (length cells) (length counters) out)) 2 (cond (readPast m n k cells counters) 3 (cond (above m n k counters) 4 0)))
+
+-- ---- the number of a write: of the old cells and the old counters only the lengths count
+
+-- the block that a write is lent
+abbrev pub block : ℕ → ℕ → List ℕ → List ℕ → List ℕ → Block
+block m n d mask values = record { rows = m; columns = n; data· = d; mask = mask; values = values }
+
+-- refusal 2 does not apply
+abbrev pub writeSized : Block → ℕ → ℕ → ℕ → Bool
+writeSized b k cells counters =
+    eqb (length (b .data·)) (b .rows) && (eqb (length (b .mask)) (b .rows) && (eqb (length (b .values)) (b .rows) && sized (b .rows) (b .columns) k cells counters))
+
+-- refusal 3 applies: a bit past the last column in a word that is read
+abbrev pub writePast : Block → Bool
+writePast b = past (b .columns) (b .data·) || (past (b .columns) (b .mask) || past (b .columns) (b .values))
+
+-- the refusal that the levels give
+abbrev pub refusal : Outcome → ℕ
+refusal (masked l r c) = 0
+refusal unmaskable = 7
+
+unfoldable pub writeNumber : Block → ℕ → ℕ → ℕ → ℕ
+writeNumber b k cells counters =
+    cond (not (inRange (b .rows) (b .columns) k)) 1
+    (cond (not (writeSized b k cells counters)) 2 (cond (writePast b) 3 (refusal (plan b k))))
+
+-- ---- what an outcome says of an accepted write: the levels used, and the counters of rows and columns
+
+abbrev pub used : Outcome → ℕ
+used (masked l r c) = l
+used unmaskable = 0
+
+abbrev pub rowsOf : Outcome → ℕ → ℕ
+rowsOf (masked l r c) = r
+rowsOf unmaskable = λ _. 0
+
+abbrev pub columnsOf : Outcome → ℕ → ℕ
+columnsOf (masked l r c) = c
+columnsOf unmaskable = λ _. 0

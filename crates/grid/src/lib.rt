@@ -1,0 +1,145 @@
+// Grid blocks: a grid of cells, one word a row, and a counter for each row and each column.
+mod judge;
+mod levels;
+mod packing;
+mod pattern;
+
+ghost use mathlib.Core.Path.{_≡_};
+ghost use lib.ListN.{length};
+ghost use Rattle.grid.specs.Promises.{Read, Write};
+ghost use Rattle.grid.specs.Calls.{block};
+ghost use Rattle.grid.specs.Steps.{ReadSized, WriteSized};
+
+// What a read answers: 0, or the number of the refusal.
+pub struct ReadAnswer {
+    pub number: usize,
+}
+
+// What a write answers: 0 or the number of the refusal, the levels used, and the stuck cells.
+pub struct WriteAnswer {
+    pub number: usize,
+    pub levels: usize,
+    pub faults: usize,
+}
+
+// Reads a block into `out` by its counters, whoever made them.
+pub fn read(
+    rows: usize,
+    columns: usize,
+    k: usize,
+    cells: &[u64],
+    counters: &[u8],
+    out: &mut [u64],
+) -> ReadAnswer
+    ensures { λ r. ⌜ Read rows columns k (now (cells .entry)) (now (counters .entry)) (now (out .entry)) r (now (out .exit)) ⌝ }
+{
+    if !judge::in_range(rows, columns, k) {
+        return ReadAnswer { number: 1 };
+    }
+    if !judge::sized_for_read(rows, columns, k, cells.len(), counters.len(), out.len()) {
+        return ReadAnswer { number: 2 };
+    }
+    read_sized(columns, k, cells, counters, out)
+}
+
+// The read of numbers in range and buffers that are as long as they should be.
+fn read_sized(
+    columns: usize,
+    k: usize,
+    cells: &[u64],
+    counters: &[u8],
+    out: &mut [u64],
+) -> ReadAnswer
+    requires { ⌜ ReadSized columns k (now cells) (now counters) (now out) ⌝ }
+    ensures { λ r. ⌜ Read (length (now (cells .entry))) columns k (now (cells .entry)) (now (counters .entry)) (now (out .entry)) r (now (out .exit)) ⌝ }
+{
+    let count = cells.len() + columns;
+    let width = packing::width(k);
+    if !judge::within(cells, columns) {
+        return ReadAnswer { number: 3 };
+    }
+    if !packing::spare_clear(counters, width, count) {
+        return ReadAnswer { number: 3 };
+    }
+    let c = packing::unpack(counters, width, count);
+    if !packing::at_most(c, count, k) {
+        return ReadAnswer { number: 4 };
+    }
+    pattern::show(columns, cells, c, out);
+    ReadAnswer { number: 0 }
+}
+
+fn refused(number: usize) -> WriteAnswer
+    ensures { λ r. ⌜ (r .number ≡ number) × (r .levels ≡ 0) × (r .faults ≡ 0) ⌝ }
+{
+    WriteAnswer {
+        number,
+        levels: 0,
+        faults: 0,
+    }
+}
+
+// Works out levels and counters that mask every fault, and stores the data by them; or refuses and stores nothing.
+pub fn write(
+    rows: usize,
+    columns: usize,
+    k: usize,
+    data: &[u64],
+    mask: &[u64],
+    values: &[u64],
+    cells: &mut [u64],
+    counters: &mut [u8],
+) -> WriteAnswer
+    ensures { λ r. ⌜ Write (block rows columns (now («data» .entry)) (now (mask .entry)) (now (values .entry))) k (now (cells .entry)) (now (counters .entry)) r (now (cells .exit)) (now (counters .exit)) ⌝ }
+{
+    if !judge::in_range(rows, columns, k) {
+        return refused(1);
+    }
+    if !judge::sized_for_write(
+        rows,
+        columns,
+        k,
+        data.len(),
+        mask.len(),
+        values.len(),
+        cells.len(),
+        counters.len(),
+    ) {
+        return refused(2);
+    }
+    write_sized(columns, k, data, mask, values, cells, counters)
+}
+
+// The write of numbers in range and buffers that are as long as they should be.
+fn write_sized(
+    columns: usize,
+    k: usize,
+    data: &[u64],
+    mask: &[u64],
+    values: &[u64],
+    cells: &mut [u64],
+    counters: &mut [u8],
+) -> WriteAnswer
+    requires { ⌜ WriteSized columns k (now «data») (now mask) (now values) (now cells) (now counters) ⌝ }
+    ensures { λ r. ⌜ Write (block (length (now («data» .entry))) columns (now («data» .entry)) (now (mask .entry)) (now (values .entry))) k (now (cells .entry)) (now (counters .entry)) r (now (cells .exit)) (now (counters .exit)) ⌝ }
+{
+    if !judge::all_within(data, mask, values, columns) {
+        return refused(3);
+    }
+    let t = levels::plan(columns, k, data, mask, values);
+    if !t.ended {
+        return refused(7);
+    }
+    let rows = data.len();
+    let used = t.used;
+    let taken_rows = t.rows;
+    let taken_columns = t.columns;
+    let c = levels::counters(taken_rows, taken_columns, used, rows, columns);
+    pattern::store(data, mask, values, taken_rows, taken_columns, used, cells);
+    packing::pack(c, packing::width(k), rows + columns, counters);
+    WriteAnswer {
+        number: 0,
+        levels: used,
+        faults: levels::stuck_cells(mask),
+    }
+}
