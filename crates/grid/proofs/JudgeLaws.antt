@@ -13,7 +13,7 @@ use Rattle.bits.proofs.TestLaws.{clash, and-left, and-right}
 use Rattle.bits.proofs.BoundLaws.{some-in, none-more}
 use Rattle.bits.proofs.BitLaws.{word-ones}
 use Rattle.rdis.specs.Packing.{width}
-use Rattle.grid.specs.Calls.{between, inRange, past}
+use Rattle.gridcalls.specs.Calls.{between, inRange, past}
 
 -- ---- a word with a bit past the last column
 

@@ -4,9 +4,5 @@ pub mod DescendLaws
 pub mod CountLaws
 pub mod PackLaws
 pub mod PatternLaws
-pub mod Demands
-pub mod Edges
-pub mod OneAnswer
-pub mod RefusalLaws
 pub mod Returns
 pub mod WriteLaws

@@ -14,14 +14,14 @@ use Rattle.rdis.specs.Levels.{masked, unmaskable, plan}
 use Rattle.rdis.specs.Cells.{flips, stored, reading}
 use Rattle.rdis.specs.Packing.{width, bytesFor, inOrder, packed, counter, unpacked, spareClear}
 use Rattle.rdis.proofs.PackingLaws.{counter-unpacked}
-use Rattle.grid.specs.Calls.{inRange, past, readSized, above, writeSized, block, writePast, readNumber, writeNumber}
-use Rattle.grid.specs.Refusals.{ReadLengths, WriteLengths}
-use Rattle.grid.specs.Promises.{Read, Write}
+use Rattle.gridcalls.specs.Calls.{inRange, past, readSized, above, writeSized, block, writePast, readNumber, writeNumber}
+use Rattle.gridcalls.specs.Refusals.{ReadLengths, WriteLengths}
+use Rattle.gridcalls.specs.Promises.{Read, Write}
 use Rattle.grid.specs.Steps.{ReadSized, WriteSized}
-use Rattle.grid.specs.declared.ReadAnswer.{ReadAnswer}
-use Rattle.grid.specs.declared.WriteAnswer.{WriteAnswer}
-use Rattle.grid.proofs.RefusalLaws.{read-sized, write-sized}
-use Rattle.grid.proofs.Demands.{read-demands, write-demands}
+use Rattle.gridcalls.specs.declared.ReadAnswer.{ReadAnswer}
+use Rattle.gridcalls.specs.declared.WriteAnswer.{WriteAnswer}
+use Rattle.gridcalls.proofs.RefusalLaws.{read-sized, write-sized}
+use Rattle.gridcalls.proofs.Demands.{read-demands, write-demands}
 
 -- ---- a read
 

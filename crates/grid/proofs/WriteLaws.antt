@@ -18,12 +18,12 @@ use Rattle.rdis.specs.Packing.{width, inOrder, packed}
 use Rattle.rdis.specs.Theorems.{Masked}
 use Rattle.rdis.proofs.CounterLaws.{counters-outside}
 use Rattle.rdis.proofs.PackingLaws.{plan-below, width-holds}
-use Rattle.grid.specs.declared.WriteAnswer.{WriteAnswer}
+use Rattle.gridcalls.specs.declared.WriteAnswer.{WriteAnswer}
 use Rattle.grid.specs.declared.levels.Taken.{Taken}
-use Rattle.grid.specs.Calls.{past, writePast}
-use Rattle.grid.specs.Promises.{Write}
+use Rattle.gridcalls.specs.Calls.{past, writePast}
+use Rattle.gridcalls.specs.Promises.{Write}
 use Rattle.grid.specs.Steps.{blockOf, WriteSized, times, crossings, Counts, Follows, heldBy}
-use Rattle.grid.proofs.RefusalLaws.{in-range, within}
+use Rattle.gridcalls.proofs.RefusalLaws.{in-range, within}
 use Rattle.grid.proofs.Returns.{accepted-write}
 
 -- ---- how the levels ended

@@ -9,7 +9,7 @@ use Rattle.bits.specs.Bits.{num, sum, has, words}
 use Rattle.rdis.specs.Block.{Block, bit}
 use Rattle.rdis.specs.Levels.{Subgrid, Outcome, masked, unmaskable, levels}
 use Rattle.rdis.specs.Packing.{width, bytesFor}
-use Rattle.grid.specs.Calls.{block, inRange}
+use Rattle.gridcalls.specs.Calls.{block, inRange}
 use Rattle.grid.specs.declared.levels.Sub.{Sub}
 use Rattle.grid.specs.declared.levels.Taken.{Taken}
 

@@ -5,7 +5,7 @@ ghost use Prim.Native.Nat.{ℕ, _+_, _*_, _^_, _<_, _≤_};
 ghost use lib.ListN.{length};
 ghost use lib.Dec.{eqb, leb};
 ghost use Rattle.bits.specs.Bits.{word};
-ghost use Rattle.grid.specs.Calls.{between, inRange, sized, past};
+ghost use Rattle.gridcalls.specs.Calls.{between, inRange, sized, past};
 
 fn is_between(first: usize, last: usize, x: usize) -> bool
     ensures { λ r. ⌜ r ≡ between first last x ⌝ }

@@ -4,23 +4,13 @@ mod levels;
 mod packing;
 mod pattern;
 
+use gridcalls::ReadAnswer;
+use gridcalls::WriteAnswer;
 ghost use mathlib.Core.Path.{_≡_};
 ghost use lib.ListN.{length};
-ghost use Rattle.grid.specs.Promises.{Read, Write};
-ghost use Rattle.grid.specs.Calls.{block};
+ghost use Rattle.gridcalls.specs.Promises.{Read, Write};
+ghost use Rattle.gridcalls.specs.Calls.{block};
 ghost use Rattle.grid.specs.Steps.{ReadSized, WriteSized};
-
-// What a read answers: 0, or the number of the refusal.
-pub struct ReadAnswer {
-    pub number: usize,
-}
-
-// What a write answers: 0 or the number of the refusal, the levels used, and the stuck cells.
-pub struct WriteAnswer {
-    pub number: usize,
-    pub levels: usize,
-    pub faults: usize,
-}
 
 // Reads a block into `out` by its counters, whoever made them.
 pub fn read(

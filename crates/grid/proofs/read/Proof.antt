@@ -1,9 +1,9 @@
 use borrow.Author.Needs.{needs}
 use borrow.Author.Tests.{not-true, not-false}
 use mathlib.Core.Path.{_≡_, sym, ap, subst, _∙_}
-use Rattle.grid.specs.Promises.{Read}
-use Rattle.grid.specs.Calls.{inRange}
-use Rattle.grid.proofs.RefusalLaws.{read-sized}
+use Rattle.gridcalls.specs.Promises.{Read}
+use Rattle.gridcalls.specs.Calls.{inRange}
+use Rattle.gridcalls.proofs.RefusalLaws.{read-sized}
 use Rattle.grid.proofs.Returns.{read-out-of-range, read-not-sized, read-goes-on, read-comes-back}
 use Rattle.grid.proofs.read.Statement.{statement}
 use Rattle.grid.proofs.read.Tie as tie

@@ -6,9 +6,9 @@ use native.Mathlib.Omega.{arith}
 use lib.ListN.{length}
 use mathlib.Core.Bool.{not, Bool·not-not}
 use Rattle.grid.specs.Steps.{shownBy}
-use Rattle.grid.specs.Refusals.{InRange}
+use Rattle.gridcalls.specs.Refusals.{InRange}
 use Rattle.grid.proofs.JudgeLaws.{width-few}
-use Rattle.grid.proofs.RefusalLaws.{in-range}
+use Rattle.gridcalls.proofs.RefusalLaws.{in-range}
 use Rattle.grid.proofs.Returns.{read-past, read-spare, read-above, accepted-read}
 use Rattle.grid.proofs.read_sized.Statement.{statement}
 use Rattle.grid.proofs.read_sized.Tie as tie

@@ -1,7 +1,7 @@
 use mathlib.Core.Path.{sym, _∙_}
 use borrow.Author.Needs.{needs}
 use borrow.Author.Tests.{not-true, not-false}
-use Rattle.grid.specs.Calls.{block}
+use Rattle.gridcalls.specs.Calls.{block}
 use Rattle.grid.proofs.Returns.{write-out-of-range, write-not-sized, write-goes-on, write-comes-back}
 use Rattle.grid.proofs.write.Statement.{statement}
 use Rattle.grid.proofs.write.Tie as tie

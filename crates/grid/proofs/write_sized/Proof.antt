@@ -6,10 +6,10 @@ use borrow.Author.Needs.{needs}
 use borrow.Author.Tests.{not-true, not-false}
 use lib.ListN.{length, take}
 use Rattle.rdis.specs.Levels.{plan}
-use Rattle.grid.specs.Refusals.{InRange}
+use Rattle.gridcalls.specs.Refusals.{InRange}
 use Rattle.grid.specs.Steps.{blockOf, Rows}
 use Rattle.grid.proofs.JudgeLaws.{width-some, width-few}
-use Rattle.grid.proofs.RefusalLaws.{in-range}
+use Rattle.gridcalls.proofs.RefusalLaws.{in-range}
 use Rattle.grid.proofs.Returns.{write-past, write-unmaskable}
 use Rattle.grid.proofs.WriteLaws.{lost, found, counters-fit, wrote}
 use Rattle.grid.proofs.write_sized.Statement.{statement}

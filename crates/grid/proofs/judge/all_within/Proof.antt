@@ -1,5 +1,5 @@
 use borrow.Author.Needs.{needs}
-use Rattle.grid.specs.Calls.{past}
+use Rattle.gridcalls.specs.Calls.{past}
 use Rattle.grid.proofs.JudgeLaws.{first-found, second-found, none-found}
 use Rattle.grid.proofs.judge.all_within.Statement.{statement}
 use Rattle.grid.proofs.judge.all_within.Tie as tie

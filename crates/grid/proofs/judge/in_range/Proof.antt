@@ -1,7 +1,7 @@
 use mathlib.Core.Path.{sym, _∙_}
 use borrow.Author.Needs.{needs}
 use borrow.Author.Tests.{not-true, not-false}
-use Rattle.grid.specs.Calls.{inRange}
+use Rattle.gridcalls.specs.Calls.{inRange}
 use Rattle.grid.proofs.judge.in_range.Statement.{statement}
 use Rattle.grid.proofs.judge.in_range.Tie as tie
 

@@ -3,9 +3,9 @@ use Prim.Native.Nat.{_+_, _≤_}
 use native.Mathlib.Omega.{arith}
 use borrow.Author.Needs.{needs}
 use borrow.Author.Tests.{eq-eqb, ne-eqb}
-use Rattle.grid.specs.Calls.{sized}
+use Rattle.gridcalls.specs.Calls.{sized}
 use Rattle.grid.proofs.JudgeLaws.{width-few}
-use Rattle.grid.proofs.RefusalLaws.{in-range}
+use Rattle.gridcalls.proofs.RefusalLaws.{in-range}
 use Rattle.grid.proofs.judge.is_sized.Statement.{statement}
 use Rattle.grid.proofs.judge.is_sized.Tie as tie
 

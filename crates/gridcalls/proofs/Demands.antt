@@ -20,12 +20,12 @@ use Rattle.rdis.proofs.CellLaws.{stuck-held}
 use Rattle.rdis.proofs.PackingLaws.{width-holds, plan-packs, plan-counter, read-back-packed}
 use Rattle.rdis.proofs.CountLaws.{faults-are-cells}
 use Rattle.rdis.proofs.FaultLaws.{levels-by-faults}
-use Rattle.grid.specs.Calls.{used, rowsOf, columnsOf}
-use Rattle.grid.specs.Refusals.{Lowest, InRange, WriteLengths, ReadRefused, rangeRead, lengthRead, pastRead, spareRead, aboveRead, WriteRefused, rangeWrite, lengthWrite, pastWrite, chainWrite}
-use Rattle.grid.specs.Promises.{ReadExactly, Read, WriteExactly, Write}
-use Rattle.grid.specs.declared.ReadAnswer.{ReadAnswer}
-use Rattle.grid.specs.declared.WriteAnswer.{WriteAnswer}
-use Rattle.grid.proofs.RefusalLaws.{lowest-none, lowest-is, in-range, write-sized, within, past-iff, read-lowest, write-7, write-lowest}
+use Rattle.gridcalls.specs.Calls.{used, rowsOf, columnsOf}
+use Rattle.gridcalls.specs.Refusals.{Lowest, InRange, WriteLengths, ReadRefused, rangeRead, lengthRead, pastRead, spareRead, aboveRead, WriteRefused, rangeWrite, lengthWrite, pastWrite, chainWrite}
+use Rattle.gridcalls.specs.Promises.{ReadExactly, Read, WriteExactly, Write}
+use Rattle.gridcalls.specs.declared.ReadAnswer.{ReadAnswer}
+use Rattle.gridcalls.specs.declared.WriteAnswer.{WriteAnswer}
+use Rattle.gridcalls.proofs.RefusalLaws.{lowest-none, lowest-is, in-range, write-sized, within, past-iff, read-lowest, write-7, write-lowest}
 
 -- ---- a read
 

@@ -11,10 +11,10 @@ use Rattle.rdis.specs.Cells.{stored}
 use Rattle.rdis.specs.Packing.{width, inOrder, packed}
 use Rattle.rdis.specs.Theorems.{withValues, SameWrite}
 use Rattle.rdis.proofs.SoundLaws.{sound-ignored}
-use Rattle.grid.specs.Calls.{past, readNumber, writeNumber, used, rowsOf, columnsOf}
-use Rattle.grid.specs.Promises.{WriteExactly, OneRead, OutputMeasured, OneWrite, OldMeasured, SoundValuesIgnored}
-use Rattle.grid.specs.declared.WriteAnswer.{WriteAnswer}
-use Rattle.grid.proofs.RefusalLaws.{past-iff}
+use Rattle.gridcalls.specs.Calls.{past, readNumber, writeNumber, used, rowsOf, columnsOf}
+use Rattle.gridcalls.specs.Promises.{WriteExactly, OneRead, OutputMeasured, OneWrite, OldMeasured, SoundValuesIgnored}
+use Rattle.gridcalls.specs.declared.WriteAnswer.{WriteAnswer}
+use Rattle.gridcalls.proofs.RefusalLaws.{past-iff}
 
 -- a call is refused or accepted
 either-way : {A : Type 0} (number : ℕ) → (0 < number → A) → (number ≡ 0 → A) → A

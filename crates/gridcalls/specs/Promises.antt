@@ -11,10 +11,10 @@ use Rattle.rdis.specs.Cells.{stored, reading}
 use Rattle.rdis.specs.Chains.{HasChain}
 use Rattle.rdis.specs.Packing.{width, inOrder, packed, rowCounter, columnCounter}
 use Rattle.rdis.specs.Theorems.{LevelsUsed, withValues}
-use Rattle.grid.specs.Calls.{readNumber, writeNumber, used, rowsOf, columnsOf}
-use Rattle.grid.specs.Refusals.{Lowest, Past, ReadRefused, WriteRefused}
-use Rattle.grid.specs.declared.ReadAnswer.{ReadAnswer}
-use Rattle.grid.specs.declared.WriteAnswer.{WriteAnswer}
+use Rattle.gridcalls.specs.Calls.{readNumber, writeNumber, used, rowsOf, columnsOf}
+use Rattle.gridcalls.specs.Refusals.{Lowest, Past, ReadRefused, WriteRefused}
+use Rattle.gridcalls.specs.declared.ReadAnswer.{ReadAnswer}
+use Rattle.gridcalls.specs.declared.WriteAnswer.{WriteAnswer}
 
 -- how a read of m rows and n columns at K = k ends, exactly: lent `out`, which holds `after` at the end
 pub record ReadExactly (m n k : ℕ) (cells counters out : List ℕ) (answer : ReadAnswer) (after : List ℕ) : Type 0 where

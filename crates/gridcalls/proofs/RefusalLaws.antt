@@ -19,8 +19,8 @@ use Rattle.rdis.specs.Levels.{Outcome, masked, unmaskable, plan}
 use Rattle.rdis.specs.Chains.{HasChain}
 use Rattle.rdis.specs.Packing.{width, bytesFor, counter, spareClear}
 use Rattle.rdis.proofs.LevelLaws.{refused-by-chain}
-use Rattle.grid.specs.Calls.{between, inRange, sized, past, readSized, readPast, above, readNumber, writeSized, writePast, refusal, writeNumber}
-use Rattle.grid.specs.Refusals.{Lowest, InRange, ReadLengths, WriteLengths, Past, ReadRefused, rangeRead, lengthRead, pastRead, spareRead, aboveRead, WriteRefused, rangeWrite, lengthWrite, pastWrite, chainWrite}
+use Rattle.gridcalls.specs.Calls.{between, inRange, sized, past, readSized, readPast, above, readNumber, writeSized, writePast, refusal, writeNumber}
+use Rattle.gridcalls.specs.Refusals.{Lowest, InRange, ReadLengths, WriteLengths, Past, ReadRefused, rangeRead, lengthRead, pastRead, spareRead, aboveRead, WriteRefused, rangeWrite, lengthWrite, pastWrite, chainWrite}
 
 -- ---- each test
 

@@ -1,0 +1,4 @@
+pub mod Demands
+pub mod Edges
+pub mod OneAnswer
+pub mod RefusalLaws
