@@ -1,0 +1,176 @@
+//! Makes a call, checks what it did a second way, and tells the outcome in one line.
+
+use crate::bits::{bit_of_bytes, bit_of_word};
+use crate::call::{Call, GridRead, GridWrite, PointerRead, PointerWrite};
+use crate::chains::{verdict, Verdict};
+use crate::levels::states;
+use crate::{grid, pointer};
+
+/// The outcome of a call: 0 or the refusal, and the counts of a write.
+#[derive(Clone, Debug, PartialEq, Eq)]
+pub struct Outcome {
+    pub number: u8,
+    pub counts: Vec<usize>,
+}
+
+/// Bytes as two hex digits each, or `-` if there are none.
+fn hex_of_bytes(bytes: &[u8]) -> String {
+    if bytes.is_empty() {
+        return String::from("-");
+    }
+    bytes.iter().map(|byte| format!("{byte:02x}")).collect()
+}
+
+/// Words as sixteen hex digits each, highest first, or `-` if there are none.
+fn hex_of_words(words: &[u64]) -> String {
+    if words.is_empty() {
+        return String::from("-");
+    }
+    words.iter().map(|word| format!("{word:016x}")).collect()
+}
+
+/// Checks an accepted pointer write: the data comes back by the read, and every stuck cell holds its stuck value.
+fn check_pointer_write(call: &PointerWrite) -> Result<(), String> {
+    let mut shown = vec![0; call.data.len()];
+    let number = pointer::read(call.n, &call.cells, &call.metadata, &mut shown);
+    if number != 0 || shown != call.data {
+        return Err(format!(
+            "a pointer write does not read back (read answers {number})"
+        ));
+    }
+    for position in 0..pointer::POSITIONS {
+        let stored = bit_of_bytes(&call.cells, position);
+        if bit_of_bytes(&call.mask, position) && stored != bit_of_bytes(&call.values, position) {
+            return Err(format!("stuck cell {position} of a pointer row moved"));
+        }
+    }
+    Ok(())
+}
+
+/// Checks refusal 7 and L of a grid write, whose numbers, lengths and words were all judged good, by chains.
+fn check_by_chains(call: &GridWrite, answer: grid::WriteAnswer) -> Result<(), String> {
+    let columns = call.numbers[1] as usize;
+    let most_levels = call.numbers[2] as usize;
+    let seen = states(columns, &call.data, &call.mask, &call.values);
+    let by_levels = if answer.number == 7 {
+        Verdict::Refusal7
+    } else {
+        Verdict::Levels(answer.levels)
+    };
+    let by_chains = verdict(&seen, most_levels);
+    if by_levels != by_chains {
+        return Err(format!(
+            "levels say {by_levels:?} and chains say {by_chains:?}"
+        ));
+    }
+    Ok(())
+}
+
+/// Checks an accepted grid write: the data comes back by the read, and every stuck cell holds its stuck value.
+fn check_grid_write(call: &GridWrite) -> Result<(), String> {
+    let mut shown = vec![0; call.data.len()];
+    let number = grid::read(call.numbers, &call.cells, &call.counters, &mut shown);
+    if number != 0 || shown != call.data {
+        return Err(format!(
+            "a grid write does not read back (read answers {number})"
+        ));
+    }
+    for row in 0..call.data.len() {
+        for column in 0..call.numbers[1] as usize {
+            let stored = bit_of_word(call.cells[row], column);
+            let stuck = bit_of_word(call.mask[row], column);
+            if stuck && stored != bit_of_word(call.values[row], column) {
+                return Err(format!("stuck cell ({row},{column}) of a grid moved"));
+            }
+        }
+    }
+    Ok(())
+}
+
+/// Makes a pointer write and checks it.
+fn make_pointer_write(call: &mut PointerWrite) -> Result<Outcome, String> {
+    let answer = pointer::write(
+        call.n,
+        &call.data,
+        &call.mask,
+        &call.values,
+        &mut call.cells,
+        &mut call.metadata,
+    );
+    if answer.number == 0 {
+        check_pointer_write(call)?;
+    }
+    Ok(Outcome {
+        number: answer.number,
+        counts: vec![answer.active, answer.new],
+    })
+}
+
+/// Makes a pointer read.
+fn make_pointer_read(call: &mut PointerRead) -> Outcome {
+    Outcome {
+        number: pointer::read(call.n, &call.cells, &call.metadata, &mut call.output),
+        counts: vec![],
+    }
+}
+
+/// Makes a grid write and checks it.
+fn make_grid_write(call: &mut GridWrite) -> Result<Outcome, String> {
+    let answer = grid::write(
+        call.numbers,
+        &call.data,
+        &call.mask,
+        &call.values,
+        &mut call.cells,
+        &mut call.counters,
+    );
+    if answer.number == 0 || answer.number == 7 {
+        check_by_chains(call, answer)?;
+    }
+    if answer.number == 0 {
+        check_grid_write(call)?;
+    }
+    Ok(Outcome {
+        number: answer.number,
+        counts: vec![answer.levels, answer.stuck],
+    })
+}
+
+/// Makes a grid read.
+fn make_grid_read(call: &mut GridRead) -> Outcome {
+    Outcome {
+        number: grid::read(call.numbers, &call.cells, &call.counters, &mut call.output),
+        counts: vec![],
+    }
+}
+
+/// Makes a call, which changes its buffers as document 01 says; an error if a check fails.
+pub fn make(call: &mut Call) -> Result<Outcome, String> {
+    match call {
+        Call::PointerWrite(c) => make_pointer_write(c),
+        Call::PointerRead(c) => Ok(make_pointer_read(c)),
+        Call::GridWrite(c) => make_grid_write(c),
+        Call::GridRead(c) => Ok(make_grid_read(c)),
+    }
+}
+
+/// The line of a call already made: the number, the counts, and the buffers that the call may change.
+pub fn line(call: &Call, outcome: &Outcome) -> String {
+    let mut parts = vec![outcome.number.to_string()];
+    for count in &outcome.counts {
+        parts.push(count.to_string());
+    }
+    match call {
+        Call::PointerWrite(c) => {
+            parts.push(hex_of_bytes(&c.cells));
+            parts.push(hex_of_bytes(&c.metadata));
+        }
+        Call::PointerRead(c) => parts.push(hex_of_bytes(&c.output)),
+        Call::GridWrite(c) => {
+            parts.push(hex_of_words(&c.cells));
+            parts.push(hex_of_bytes(&c.counters));
+        }
+        Call::GridRead(c) => parts.push(hex_of_words(&c.output)),
+    }
+    parts.join(" ")
+}

@@ -1,0 +1,230 @@
+//! The calls and their format: a tag byte, the numbers, then the buffers, all lowest byte first.
+
+use std::io::{self, Read, Write};
+
+pub const MOST_ELEMENTS: usize = 512;
+
+/// The arguments of a pointer write, tag 1.
+#[derive(Clone, Debug, PartialEq, Eq)]
+pub struct PointerWrite {
+    pub n: u64,
+    pub data: Vec<u8>,
+    pub mask: Vec<u8>,
+    pub values: Vec<u8>,
+    pub cells: Vec<u8>,
+    pub metadata: Vec<u8>,
+}
+
+/// The arguments of a pointer read, tag 2.
+#[derive(Clone, Debug, PartialEq, Eq)]
+pub struct PointerRead {
+    pub n: u64,
+    pub cells: Vec<u8>,
+    pub metadata: Vec<u8>,
+    pub output: Vec<u8>,
+}
+
+/// The arguments of a grid write, tag 3; the numbers are rows, columns and K.
+#[derive(Clone, Debug, PartialEq, Eq)]
+pub struct GridWrite {
+    pub numbers: [u64; 3],
+    pub data: Vec<u64>,
+    pub mask: Vec<u64>,
+    pub values: Vec<u64>,
+    pub cells: Vec<u64>,
+    pub counters: Vec<u8>,
+}
+
+/// The arguments of a grid read, tag 4; the numbers are rows, columns and K.
+#[derive(Clone, Debug, PartialEq, Eq)]
+pub struct GridRead {
+    pub numbers: [u64; 3],
+    pub cells: Vec<u64>,
+    pub counters: Vec<u8>,
+    pub output: Vec<u64>,
+}
+
+/// One call of one of the four functions of document 01.
+#[derive(Clone, Debug, PartialEq, Eq)]
+pub enum Call {
+    PointerWrite(PointerWrite),
+    PointerRead(PointerRead),
+    GridWrite(GridWrite),
+    GridRead(GridRead),
+}
+
+/// Why no call could be taken from the input.
+#[derive(Debug)]
+pub enum Trouble {
+    BadCall,
+    Input(io::Error),
+}
+
+impl From<io::Error> for Trouble {
+    /// An input that ends inside a call is a bad call; anything else is a failure of the input.
+    fn from(error: io::Error) -> Trouble {
+        if error.kind() == io::ErrorKind::UnexpectedEof {
+            Trouble::BadCall
+        } else {
+            Trouble::Input(error)
+        }
+    }
+}
+
+/// The next tag byte, or nothing if the input ends here.
+fn next_tag(input: &mut impl Read) -> Result<Option<u8>, Trouble> {
+    let mut tag = [0];
+    match input.read_exact(&mut tag) {
+        Ok(()) => Ok(Some(tag[0])),
+        Err(error) if error.kind() == io::ErrorKind::UnexpectedEof => Ok(None),
+        Err(error) => Err(Trouble::Input(error)),
+    }
+}
+
+/// The next number, eight bytes.
+fn next_number(input: &mut impl Read) -> Result<u64, Trouble> {
+    let mut bytes = [0; 8];
+    input.read_exact(&mut bytes)?;
+    Ok(u64::from_le_bytes(bytes))
+}
+
+/// The next rows, columns and K.
+fn next_three_numbers(input: &mut impl Read) -> Result<[u64; 3], Trouble> {
+    Ok([
+        next_number(input)?,
+        next_number(input)?,
+        next_number(input)?,
+    ])
+}
+
+/// The next count of elements, two bytes, at most 512.
+fn next_count(input: &mut impl Read) -> Result<usize, Trouble> {
+    let mut bytes = [0; 2];
+    input.read_exact(&mut bytes)?;
+    let count = usize::from(u16::from_le_bytes(bytes));
+    if count > MOST_ELEMENTS {
+        return Err(Trouble::BadCall);
+    }
+    Ok(count)
+}
+
+/// The next buffer of bytes.
+fn next_bytes(input: &mut impl Read) -> Result<Vec<u8>, Trouble> {
+    let mut bytes = vec![0; next_count(input)?];
+    input.read_exact(&mut bytes)?;
+    Ok(bytes)
+}
+
+/// The next buffer of words.
+fn next_words(input: &mut impl Read) -> Result<Vec<u64>, Trouble> {
+    let count = next_count(input)?;
+    let mut words = Vec::new();
+    for _ in 0..count {
+        words.push(next_number(input)?);
+    }
+    Ok(words)
+}
+
+/// The next call, or nothing if the input ends exactly between calls.
+pub fn next_call(input: &mut impl Read) -> Result<Option<Call>, Trouble> {
+    let tag = match next_tag(input)? {
+        None => return Ok(None),
+        Some(tag) => tag,
+    };
+    let call = match tag {
+        1 => Call::PointerWrite(PointerWrite {
+            n: next_number(input)?,
+            data: next_bytes(input)?,
+            mask: next_bytes(input)?,
+            values: next_bytes(input)?,
+            cells: next_bytes(input)?,
+            metadata: next_bytes(input)?,
+        }),
+        2 => Call::PointerRead(PointerRead {
+            n: next_number(input)?,
+            cells: next_bytes(input)?,
+            metadata: next_bytes(input)?,
+            output: next_bytes(input)?,
+        }),
+        3 => Call::GridWrite(GridWrite {
+            numbers: next_three_numbers(input)?,
+            data: next_words(input)?,
+            mask: next_words(input)?,
+            values: next_words(input)?,
+            cells: next_words(input)?,
+            counters: next_bytes(input)?,
+        }),
+        4 => Call::GridRead(GridRead {
+            numbers: next_three_numbers(input)?,
+            cells: next_words(input)?,
+            counters: next_bytes(input)?,
+            output: next_words(input)?,
+        }),
+        _ => return Err(Trouble::BadCall),
+    };
+    Ok(Some(call))
+}
+
+/// Puts out numbers of eight bytes each.
+fn put_numbers(output: &mut impl Write, numbers: &[u64]) -> io::Result<()> {
+    for number in numbers {
+        output.write_all(&number.to_le_bytes())?;
+    }
+    Ok(())
+}
+
+/// Puts out the count of elements of a buffer.
+fn put_count(output: &mut impl Write, count: usize) -> io::Result<()> {
+    assert!(count <= MOST_ELEMENTS);
+    output.write_all(&(count as u16).to_le_bytes())
+}
+
+/// Puts out buffers of bytes.
+fn put_bytes(output: &mut impl Write, buffers: &[&Vec<u8>]) -> io::Result<()> {
+    for buffer in buffers {
+        put_count(output, buffer.len())?;
+        output.write_all(buffer)?;
+    }
+    Ok(())
+}
+
+/// Puts out buffers of words.
+fn put_words(output: &mut impl Write, buffers: &[&Vec<u64>]) -> io::Result<()> {
+    for buffer in buffers {
+        put_count(output, buffer.len())?;
+        put_numbers(output, buffer)?;
+    }
+    Ok(())
+}
+
+/// Puts out a call in the format that `next_call` takes.
+pub fn put_call(output: &mut impl Write, call: &Call) -> io::Result<()> {
+    match call {
+        Call::PointerWrite(c) => {
+            output.write_all(&[1])?;
+            put_numbers(output, &[c.n])?;
+            put_bytes(
+                output,
+                &[&c.data, &c.mask, &c.values, &c.cells, &c.metadata],
+            )
+        }
+        Call::PointerRead(c) => {
+            output.write_all(&[2])?;
+            put_numbers(output, &[c.n])?;
+            put_bytes(output, &[&c.cells, &c.metadata, &c.output])
+        }
+        Call::GridWrite(c) => {
+            output.write_all(&[3])?;
+            put_numbers(output, &c.numbers)?;
+            put_words(output, &[&c.data, &c.mask, &c.values, &c.cells])?;
+            put_bytes(output, &[&c.counters])
+        }
+        Call::GridRead(c) => {
+            output.write_all(&[4])?;
+            put_numbers(output, &c.numbers)?;
+            put_words(output, &[&c.cells])?;
+            put_bytes(output, &[&c.counters])?;
+            put_words(output, &[&c.output])
+        }
+    }
+}

@@ -1,0 +1,167 @@
+//! Damage to grid calls: numbers, lengths, bits past the last column, spare bits, and counters above K.
+
+use crate::bits::{bytes_that_hold, set_bit_of_bytes};
+use crate::call::{GridRead, GridWrite};
+use crate::counters::{counter_width, MOST_LEVELS, MOST_LINES};
+use crate::damage::{number_near_limit, number_outside, resize_bytes, resize_words};
+use crate::random::Random;
+
+/// The ranges of rows, columns and K end here.
+const MOST: [u64; 3] = [MOST_LINES, MOST_LINES, MOST_LEVELS];
+
+/// Gives a grid write one kind of damage.
+pub fn damage_write(random: &mut Random, call: &mut GridWrite) {
+    let mut words = [
+        &mut call.data,
+        &mut call.mask,
+        &mut call.values,
+        &mut call.cells,
+    ];
+    match random.below(100) {
+        0..=29 => damage_numbers(random, &mut call.numbers, &mut words, &mut call.counters),
+        30..=59 => damage_lengths(random, &mut words, &mut call.counters),
+        60..=89 => {
+            let place = random.below(3);
+            set_bits_past(random, call.numbers[1], words[place]);
+        }
+        90..=94 => call.numbers.swap(0, 1),
+        _ => call.numbers[2] = random.between(0, 4) as u64,
+    }
+}
+
+/// Gives a grid read one kind of damage.
+pub fn damage_read(random: &mut Random, call: &mut GridRead) {
+    let mut words = [&mut call.cells, &mut call.output];
+    match random.below(100) {
+        0..=18 => damage_numbers(random, &mut call.numbers, &mut words, &mut call.counters),
+        19..=38 => damage_lengths(random, &mut words, &mut call.counters),
+        39..=51 => set_bits_past(random, call.numbers[1], &mut call.cells),
+        52..=64 => set_spare_bits(random, call.numbers, &mut call.counters),
+        65..=94 => raise_counters(random, call.numbers, &mut call.counters),
+        95 | 96 => call.numbers.swap(0, 1),
+        _ => call.numbers[2] = random.between(0, 4) as u64,
+    }
+}
+
+/// Gives one of the three numbers another value; half the time the buffers then get the lengths that the
+/// new numbers would ask for.
+fn damage_numbers(
+    random: &mut Random,
+    numbers: &mut [u64; 3],
+    words: &mut [&mut Vec<u64>],
+    counters: &mut Vec<u8>,
+) {
+    let place = random.below(3);
+    numbers[place] = if random.percent(75) {
+        number_outside(random, numbers[place], MOST[place])
+    } else {
+        number_near_limit(random, numbers[place], MOST[place])
+    };
+    if numbers.iter().all(|number| *number <= 70) && random.bit() {
+        let rows = numbers[0] as usize;
+        for buffer in words.iter_mut() {
+            buffer.resize(rows, 0);
+        }
+        let width = match numbers[2] {
+            0 => random.below(3),
+            1..=3 => counter_width(numbers[2] as usize),
+            _ => random.between(2, 3),
+        };
+        let bits = (rows + numbers[1] as usize) * width;
+        counters.resize(bytes_that_hold(bits), 0);
+    }
+}
+
+/// Gives one buffer, or now and then two, a wrong length.
+fn damage_lengths(random: &mut Random, words: &mut [&mut Vec<u64>], counters: &mut Vec<u8>) {
+    let times = if random.percent(15) { 2 } else { 1 };
+    for _ in 0..times {
+        let place = random.below(words.len() + 1);
+        if place < words.len() {
+            resize_words(random, words[place]);
+        } else {
+            resize_bytes(random, counters);
+        }
+    }
+}
+
+/// Sets bits past the last column in one word: the first such bit, the highest, any one or all.
+fn set_bits_past(random: &mut Random, columns: u64, words: &mut [u64]) {
+    if columns >= 64 || words.is_empty() {
+        return;
+    }
+    let first = columns as usize;
+    let row = match random.below(3) {
+        0 => 0,
+        1 => words.len() - 1,
+        _ => random.below(words.len()),
+    };
+    let bits = match random.below(4) {
+        0 => first..=first,
+        1 => 63..=63,
+        2 => {
+            let one = random.between(first, 63);
+            one..=one
+        }
+        _ => first..=63,
+    };
+    for bit in bits {
+        words[row] |= 1 << bit;
+    }
+}
+
+/// The bits that the counters of these numbers use, if the numbers are in range and the length is theirs.
+fn used_bits(numbers: [u64; 3], counters: &[u8]) -> Option<usize> {
+    if (0..3).any(|place| !(1..=MOST[place]).contains(&numbers[place])) {
+        return None;
+    }
+    let used = (numbers[0] + numbers[1]) as usize * counter_width(numbers[2] as usize);
+    if counters.len() == bytes_that_hold(used) {
+        Some(used)
+    } else {
+        None
+    }
+}
+
+/// Sets the first spare bit, the last, any one or all, if there is one.
+fn set_spare_bits(random: &mut Random, numbers: [u64; 3], counters: &mut [u8]) {
+    let first = match used_bits(numbers, counters) {
+        Some(used) if used < counters.len() * 8 => used,
+        _ => return,
+    };
+    let last = counters.len() * 8 - 1;
+    let one = random.between(first, last);
+    match random.below(4) {
+        0 => set_bit_of_bytes(counters, first, true),
+        1 => set_bit_of_bytes(counters, last, true),
+        2 => set_bit_of_bytes(counters, one, true),
+        _ => {
+            for spare in first..=last {
+                set_bit_of_bytes(counters, spare, true);
+            }
+        }
+    }
+}
+
+/// Sets every bit of one counter, or of all: above K for K = 2, and the most that is allowed for 1 and 3.
+fn raise_counters(random: &mut Random, numbers: [u64; 3], counters: &mut [u8]) {
+    let used = match used_bits(numbers, counters) {
+        Some(used) => used,
+        None => return,
+    };
+    let width = counter_width(numbers[2] as usize);
+    let count = used / width;
+    let rows = numbers[0] as usize;
+    let any = random.below(count);
+    let place = random.pick(&[0, rows - 1, rows, count - 1, any, any]);
+    let raised = if random.percent(10) {
+        0..count
+    } else {
+        place..place + 1
+    };
+    for counter in raised {
+        for bit in 0..width {
+            set_bit_of_bytes(counters, counter * width + bit, true);
+        }
+    }
+}

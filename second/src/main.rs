@@ -1,0 +1,76 @@
+//! The commands: `run` makes the calls on standard input, `make` and `cases` put calls out.
+
+use std::io::{self, BufReader, BufWriter, Write};
+use std::process::ExitCode;
+
+use second::answer;
+use second::call::{next_call, put_call, Call, Trouble};
+use second::make::Maker;
+use second::{cases_grid, cases_pointer};
+
+const USAGE: &str =
+    "usage: second run < calls | second make SEED COUNT > calls | second cases > calls";
+
+/// Makes each call on the input and prints one line a call, until the input ends or a call is bad.
+fn run(output: &mut impl Write) -> Result<(), String> {
+    let mut input = BufReader::new(io::stdin().lock());
+    loop {
+        match next_call(&mut input) {
+            Ok(None) => return Ok(()),
+            Ok(Some(mut call)) => {
+                let outcome = answer::make(&mut call)?;
+                let line = answer::line(&call, &outcome);
+                writeln!(output, "{line}").map_err(|error| error.to_string())?;
+            }
+            Err(Trouble::BadCall) => {
+                return writeln!(output, "bad call").map_err(|error| error.to_string());
+            }
+            Err(Trouble::Input(error)) => return Err(error.to_string()),
+        }
+    }
+}
+
+/// Puts one call out.
+fn put(output: &mut impl Write, call: &Call) -> Result<(), String> {
+    put_call(output, call).map_err(|error| error.to_string())
+}
+
+/// Puts out COUNT calls that depend on SEED alone.
+fn make(seed: &str, count: &str, output: &mut impl Write) -> Result<(), String> {
+    let seed: u64 = seed.parse().map_err(|_| USAGE)?;
+    let count: u64 = count.parse().map_err(|_| USAGE)?;
+    let mut maker = Maker::new(seed);
+    for _ in 0..count {
+        put(output, &maker.next_call())?;
+    }
+    Ok(())
+}
+
+/// Puts out the calls of the cases of document 01.
+fn cases(output: &mut impl Write) -> Result<(), String> {
+    for (_, call) in cases_pointer::all().iter().chain(cases_grid::all().iter()) {
+        put(output, call)?;
+    }
+    Ok(())
+}
+
+/// Does what the arguments ask, flushes what was printed, and ends with an error status if it failed.
+fn main() -> ExitCode {
+    let arguments: Vec<String> = std::env::args().skip(1).collect();
+    let words: Vec<&str> = arguments.iter().map(String::as_str).collect();
+    let mut output = BufWriter::new(io::stdout().lock());
+    let done = match words.as_slice() {
+        ["run"] => run(&mut output),
+        ["make", seed, count] => make(seed, count, &mut output),
+        ["cases"] => cases(&mut output),
+        _ => Err(String::from(USAGE)),
+    };
+    let flushed = output.flush().map_err(|error| error.to_string());
+    match done.and(flushed) {
+        Ok(()) => ExitCode::SUCCESS,
+        Err(message) => {
+            eprintln!("second: {message}");
+            ExitCode::FAILURE
+        }
+    }
+}
