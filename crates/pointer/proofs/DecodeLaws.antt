@@ -107,9 +107,9 @@ module _ (es : List ℕ) where
 
 -- ---- all of it
 
-full-bit : (m : List ℕ) (x : ℕ) → x ≡ getD m 0 0 → eqb (x % 2) 1 ≡ at m 0
+full-bit : (m : List ℕ) → eqb (getD m 0 0 % 2) 1 ≡ at m 0
 unfolding at has
-full-bit m x h = ap (λ y. eqb (y % 2) 1) (h ∙ sym (div-one (getD m 0 0)))
+full-bit m = ap (λ y. eqb (y % 2) 1) (sym (div-one (getD m 0 0)))
 
 module _ (n : ℕ) (m es : List ℕ) (loaded : take (n + 1) es ≡ list (n + 1) (entry m)) where
   loaded-at : (e : ℕ) → e ≤ n → getD es e 0 ≡ entry m e
@@ -118,10 +118,10 @@ module _ (n : ℕ) (m es : List ℕ) (loaded : take (n + 1) es ≡ list (n + 1) 
   loaded-take : (a : ℕ) → a ≤ n → take a es ≡ list a (entry m)
   loaded-take a h = sym (take-take a (n + 1) es (omega arith)) ∙ ap (take a) loaded ∙ take-list a (n + 1) (entry m) 0 (omega arith)
 
-  -- the count, where x is the first byte
-  pub counted : (a x : ℕ) → 1 ≤ n → x ≡ getD m 0 0 → a ≡ cond (eqb (x % 2) 1) n (sum (n - 1) (λ k. num (has (getD es (n - 1) 0) k))) → a ≡ active n m
+  -- the count, by the lowest bit of the first byte
+  pub counted : (a : ℕ) → 1 ≤ n → a ≡ cond (eqb (getD m 0 0 % 2) 1) n (sum (n - 1) (λ k. num (has (getD es (n - 1) 0) k))) → a ≡ active n m
   unfolding active
-  counted a x l f h = h ∙ rw (full-bit m x f, loaded-at (n - 1) (omega arith))
+  counted a l h = h ∙ rw (full-bit m, loaded-at (n - 1) (omega arith))
 
   well : (a : ℕ) → a ≡ active n m → not (some n (stray n a es)) ≡ formed n m
   unfolding formed

@@ -4,21 +4,20 @@ use mathlib.Core.Bool.{Bool, true, false, not, xor, cond, _&&_}
 use mathlib.Core.List.{List, [], _∷_, _++_, append-nil, append-assoc}
 use mathlib.Core.Logic.{_≢_, ⊎-elim}
 use Prim.Native.Nat.{ℕ, zero, suc, _+_, _-_, _*_, _/_, _%_, _^_, _≤_, _<_}
-use native.Mathlib.Nat.{lt-of-le-of-lt, eq-or-lt-of-le}
 use native.Mathlib.Omega.{arith}
 use native.Mathlib.Numerals.{add-one}
-use borrow.Author.Tests.{lt-ltb, le-ltb}
+use borrow.Author.Tests.{ltb-true, lt-ltb, le-ltb}
+use lib.Bits.{bitAnd, bitXor}
 use lib.Count.{trailingZeros}
 use lib.Dec.{ltb}
 use lib.ListN.{length, getD, take, set, length-set, length-append}
-use lib.Pow.{shr-le}
 use lib.Seq.{length-take-le, take-suc-set}
-use Rattle.bits.specs.Bits.{has, at}
-use Rattle.bits.proofs.TestLaws.{clash, lt-or-le}
+use Rattle.bits.specs.Bits.{has, at, Below}
+use Rattle.bits.proofs.TestLaws.{and-left, lt-or-le}
 use Rattle.bits.proofs.BitLaws.{has-zero, has-high, has-shr, lowest-set, below-lowest}
-use Rattle.bits.proofs.ByteLaws.{at-byte}
 use Rattle.pointer.specs.Pointer.{positions}
-use Rattle.pointer.specs.Steps.{unservedAt, Planned}
+use Rattle.pointer.specs.Steps.{unservedAt, unservedFrom, Planned}
+use Rattle.pointer.proofs.OctetLaws.{bit-unserved}
 use Rattle.pointer.proofs.PositionLaws.{positions-take, positions-none, positions-grow}
 
 -- ---- what is found in a byte
@@ -30,43 +29,58 @@ pub record Next (f : ℕ → Bool) (q p : ℕ) : Type 0 where
   pub passes : f p ≡ true
   pub first : (r : ℕ) → q ≤ r → r < p → f r ≡ false
 
--- u has the bits of byte q / 8, and what is left of it from q on is u shifted down
-module _ (wanted mask values served : List ℕ) (q u : ℕ)
-    (bits : (k : ℕ) → has u k ≡ (has (getD mask (q / 8) 0) k && xor (has (getD wanted (q / 8) 0) k) (has (getD values (q / 8) 0) k) && not (has (getD served (q / 8) 0) k))) where
-  left-bit : (p : ℕ) → q ≤ p → p < 8 * (q / 8) + 8 → unservedAt wanted mask values served p ≡ has (u / 2 ^ (q % 8)) (p - q)
-  left-bit p l h =
-      let i : ℕ = q / 8 in
-      let k : ℕ = q % 8 + (p - q) in
-      let e : p ≡ 8 * i + k = omega arith in
-      let d : k < 8 = omega arith in
-      ap (unservedAt wanted mask values served) e ∙ rw (at-byte mask i k d, at-byte wanted i k d, at-byte values i k d, at-byte served i k d) (sym (bits k)) ∙ sym (has-shr u (q % 8) (p - q))
+-- the bit of position q + k, in q's byte
+at-from : (bs : List ℕ) (q k : ℕ) → q % 8 + k < 8 → at bs (q + k) ≡ has (getD bs (q / 8) 0) (q % 8 + k)
+unfolding at
+at-from bs q k h =
+    let d : (q + k) / 8 ≡ q / 8 = omega arith in
+    let r : (q + k) % 8 ≡ q % 8 + k = omega arith in
+    rw (d, r)
 
-  pub none-left : u / 2 ^ (q % 8) ≡ 0 → (p : ℕ) → q ≤ p → p < 8 * (q / 8) + 8 → unservedAt wanted mask values served p ≡ false
-  none-left z p l h = left-bit p l h ∙ ap (λ x. has x (p - q)) z ∙ has-zero (p - q)
+-- `u >> (q % 8)`, where u is the byte of unserved positions
+pub left-bit : (wanted mask values : List ℕ) (s q k : ℕ) → Below 256 mask
+    → has (bitXor (bitAnd (getD mask (q / 8) 0) (bitXor (getD wanted (q / 8) 0) (getD values (q / 8) 0))) (bitAnd (bitAnd (getD mask (q / 8) 0) (bitXor (getD wanted (q / 8) 0) (getD values (q / 8) 0))) s) / 2 ^ (q % 8)) k
+    ≡ unservedFrom wanted mask values s q k
+left-bit wanted mask values s q k b =
+    has-shr _ (q % 8) k ∙ bit-unserved (getD wanted i 0) (getD mask i 0) (getD values i 0) s (q % 8 + k)
+    ∙ ⊎-elim within past (lt-or-le (q % 8 + k) 8)
+  where
+    i : ℕ
+    i = q / 8
 
-  -- the next one
-  module _ (small : u < 256) (d : u / 2 ^ (q % 8) ≢ 0) where
-    next : ℕ
-    next = trailingZeros 8 (u / 2 ^ (q % 8))
+    within : q % 8 + k < 8 → has (getD mask i 0) (q % 8 + k) && xor (has (getD wanted i 0) (q % 8 + k)) (has (getD values i 0) (q % 8 + k)) && not (has s (q % 8 + k)) ≡ unservedFrom wanted mask values s q k
+    within h = sym (rw (lt-ltb (q % 8 + k) 8 h, at-from mask q k h, at-from wanted q k h, at-from values q k h))
 
-    set-next : has (u / 2 ^ (q % 8)) next ≡ true
-    unfolding next
-    set-next = lowest-set 8 (u / 2 ^ (q % 8)) (lt-of-le-of-lt (shr-le u (q % 8)) small) d
+    past : 8 ≤ q % 8 + k → has (getD mask i 0) (q % 8 + k) && xor (has (getD wanted i 0) (q % 8 + k)) (has (getD values i 0) (q % 8 + k)) && not (has s (q % 8 + k)) ≡ unservedFrom wanted mask values s q k
+    past h = rw (le-ltb (q % 8 + k) 8 h, has-high 8 (getD mask i 0) (q % 8 + k) (b i) h)
 
-    near : q % 8 + next < 8
-    near = ⊎-elim (λ h. h) (λ h. clash set-next (has-shr u (q % 8) next ∙ has-high 8 u (q % 8 + next) small h)) (lt-or-le (q % 8 + next) 8)
+-- x is what is left of q's byte
+module _ (wanted mask values served : List ℕ) (q x : ℕ) (bits : (k : ℕ) → has x k ≡ unservedFrom wanted mask values (getD served (q / 8) 0) q k) where
+  in-byte : (p : ℕ) → q ≤ p → p < 8 * (q / 8) + 8 → unservedAt wanted mask values served p ≡ has x (p - q)
+  in-byte p l h =
+      let k : ℕ = p - q in
+      let e : p ≡ q + k = omega arith in
+      let w : q % 8 + k < 8 = omega arith in
+      ap (unservedAt wanted mask values served) e
+      ∙ ap (λ t. at mask (q + k) && xor (at wanted (q + k)) (at values (q + k)) && not t) (at-from served q k w)
+      ∙ sym (bits k ∙ ap (λ t. t && (at mask (q + k) && xor (at wanted (q + k)) (at values (q + k)) && not (has (getD served (q / 8) 0) (q % 8 + k)))) (lt-ltb (q % 8 + k) 8 w))
 
-    pub next-is : Next (unservedAt wanted mask values served) q (q + trailingZeros 8 (u / 2 ^ (q % 8)))
-    unfolding next
-    next-is =
-        let w : q + next < 8 * (q / 8) + 8 = omega (arith, near) in
-        let o : q + next - q ≡ next = omega arith in
-        record {
-          after = omega arith;
-          within = w;
-          passes = left-bit (q + next) (omega arith) w ∙ ap (has (u / 2 ^ (q % 8))) o ∙ set-next;
-          first = λ r l h. left-bit r l (omega arith) ∙ below-lowest 8 (u / 2 ^ (q % 8)) (r - q) (omega arith);
-        }
+  pub none-left : x ≡ 0 → (p : ℕ) → q ≤ p → p < 8 * (q / 8) + 8 → unservedAt wanted mask values served p ≡ false
+  none-left z p l h = in-byte p l h ∙ ap (λ y. has y (p - q)) z ∙ has-zero (p - q)
+
+  pub next-is : x < 256 → x ≢ 0 → Next (unservedAt wanted mask values served) q (q + trailingZeros 8 x)
+  next-is small d =
+      let t : ℕ = trailingZeros 8 x in
+      let yes : has x t ≡ true = lowest-set 8 x small d in
+      let near : q % 8 + t < 8 = ltb-true (q % 8 + t) 8 (and-left (ltb (q % 8 + t) 8) _ (sym (bits t) ∙ yes)) in
+      let w : q + t < 8 * (q / 8) + 8 = omega arith in
+      let o : q + t - q ≡ t = omega arith in
+      record {
+        after = omega arith;
+        within = w;
+        passes = in-byte (q + t) (omega arith) w ∙ ap (has x) o ∙ yes;
+        first = λ r l h. in-byte r l (omega arith) ∙ below-lowest 8 x (r - q) (omega arith);
+      }
 
 -- ---- the loop: es holds the entries l and one for each position below q that passes f
 

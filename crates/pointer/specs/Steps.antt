@@ -1,11 +1,11 @@
 -- What the private functions hand to each other. Assumes nothing.
-use Prim.Native.Nat.{ℕ, zero, suc, _+_, _≤_}
+use Prim.Native.Nat.{ℕ, zero, suc, _+_, _%_, _≤_}
 use mathlib.Core.Path.{_≡_}
 use mathlib.Core.Bool.{Bool, not, xor, cond, _&&_}
 use mathlib.Core.List.{List, _++_}
 use lib.ListN.{length, getD, take}
 use lib.Dec.{eqb, ltb}
-use Rattle.bits.specs.Bits.{list, at}
+use Rattle.bits.specs.Bits.{list, has, at}
 use Rattle.pointer.specs.declared.WriteAnswer.{WriteAnswer}
 use Rattle.pointer.specs.Pointer.{size, entry, active, names, repeats, positions, slot, verdict}
 
@@ -44,6 +44,10 @@ pub record Decoded (n : ℕ) (m : List ℕ) (number a : ℕ) (entries served : L
 -- position p is stuck at the other value than the wanted one, and not marked as served
 abbrev pub unservedAt : List ℕ → List ℕ → List ℕ → List ℕ → ℕ → Bool
 unservedAt wanted mask values served p = at mask p && xor (at wanted p) (at values p) && not (at served p)
+
+-- the same k positions after q, in q's byte: s is the byte of served positions
+abbrev pub unservedFrom : List ℕ → List ℕ → List ℕ → ℕ → ℕ → ℕ → Bool
+unservedFrom wanted mask values s q k = ltb (q % 8 + k) 8 && (at mask (q + k) && xor (at wanted (q + k)) (at values (q + k)) && not (has s (q % 8 + k)))
 
 -- the entries es, and one for each position that f says is unserved; 6 where they are more than n
 pub record Planned (n : ℕ) (f : ℕ → Bool) (es : List ℕ) (number a : ℕ) (entries : List ℕ) : Type 0 where

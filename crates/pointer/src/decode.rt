@@ -1,5 +1,4 @@
 // From metadata to entries: what the entries hold, which are active, and what is wrong with them.
-use super::octets::bit;
 use super::octets::byte;
 use super::octets::with_bit;
 ghost use mathlib.Core.Path.{_≡_};
@@ -24,7 +23,7 @@ pub fn decoded(n: usize, m: &[u8]) -> Row
     ensures { λ r. ⌜ Decoded n (now (m .entry)) (r .number) (r .active) (r .entries) (r .served) ⌝ }
 {
     let es = load(n, m);
-    let a = count(n, byte(m, 0) % 2 == 1, es[n - 1]);
+    let a = count(n, m[0] % 2 == 1, es[n - 1]);
     let marks = marked(es, a);
     let served = marks.served;
     Row {
@@ -111,17 +110,19 @@ fn marked(es: [usize; 11], a: usize) -> Marks
     while i < a {
         let p = es[i] % 512;
         let b = served[p / 8];
-        repeated = either(repeated, bit(b, p % 8));
+        repeated = again(repeated, b, p % 8);
         served[p / 8] = with_bit(b, p % 8, true);
         i += 1;
     }
     Marks { repeated, served }
 }
 
-fn either(a: bool, b: bool) -> bool
-    ensures { λ r. ⌜ r ≡ a || b ⌝ }
+// A position was named twice before, or bit k of b says that this one is named already.
+fn again(before: bool, b: u8, k: usize) -> bool
+    requires { ⌜ k < 8 ⌝ }
+    ensures { λ r. ⌜ r ≡ before || has b k ⌝ }
 {
-    if a { true } else { b }
+    if before { true } else { (b >> k) % 2 == 1 }
 }
 
 fn lowest(spare: bool, formed: bool, repeats: bool) -> usize

@@ -8,6 +8,7 @@ mod cells; // the 64 bytes of a row
 ghost use mathlib.Core.Path.{_≡_};
 ghost use mathlib.Core.Bool.{_&&_};
 ghost use Prim.Native.Nat.{_≤_};
+ghost use lib.Dec.{eqb};
 ghost use lib.ListN.{length};
 ghost use Rattle.pointer.specs.Pointer.{measured, size};
 ghost use Rattle.pointer.specs.Promises.{Read, Write};
@@ -47,11 +48,11 @@ pub fn write(
 ) -> WriteAnswer
     ensures { λ r. ⌜ Write n (now («data» .entry)) (now (mask .entry)) (now (values .entry)) (now (cells .entry)) (now (metadata .entry)) r (now (cells .exit)) (now (metadata .exit)) ⌝ }
 {
-    let fixed = both(
-        both(both(data.len() == 64, mask.len() == 64), values.len() == 64),
-        cells.len() == 64,
+    let k = measured(
+        n,
+        fixed(data.len(), mask.len(), values.len(), cells.len()),
+        metadata.len(),
     );
-    let k = measured(n, fixed, metadata.len());
     if 0 < k {
         return refused(k);
     }
@@ -62,6 +63,15 @@ fn both(a: bool, b: bool) -> bool
     ensures { λ r. ⌜ r ≡ a && b ⌝ }
 {
     if a { b } else { false }
+}
+
+fn fixed(data: usize, mask: usize, values: usize, cells: usize) -> bool
+    ensures { λ r. ⌜ r ≡ (eqb «data» 64 && eqb mask 64 && eqb values 64 && eqb cells 64) ⌝ }
+{
+    both(
+        both(both(data == 64, mask == 64), values == 64),
+        cells == 64,
+    )
 }
 
 // The number of entries is judged before the metadata's length is computed from it.

@@ -13,14 +13,6 @@ pub fn byte(b: &[u8], q: usize) -> usize
     if q < b.len() { b[q] as usize } else { 0 }
 }
 
-// Bit k of x is 1.
-pub fn bit(x: u8, k: usize) -> bool
-    requires { ⌜ k < 8 ⌝ }
-    ensures { λ r. ⌜ r ≡ has x k ⌝ }
-{
-    (x >> k) % 2 == 1
-}
-
 // x with v at bit k.
 pub fn with_bit(x: u8, k: usize, v: bool) -> u8
     requires { ⌜ k < 8 ⌝ }

@@ -1,10 +1,9 @@
 // Which entries a write needs: those that are active, and one for each unserved position.
 ghost use mathlib.Core.Path.{_≡_};
-ghost use mathlib.Core.Bool.{not, xor, _&&_};
-ghost use Prim.Native.Nat.{ℕ, _≤_};
+ghost use Prim.Native.Nat.{ℕ, _≤_, _<_};
 ghost use lib.ListN.{length, take};
 ghost use Rattle.bits.specs.Bits.{has};
-ghost use Rattle.pointer.specs.Steps.{unservedAt, Planned};
+ghost use Rattle.pointer.specs.Steps.{unservedAt, unservedFrom, Planned};
 
 pub struct Plan {
     pub number: usize,
@@ -29,10 +28,9 @@ pub fn planned(
     let mut a = held;
     let mut q = 0;
     while q < 512 {
-        let i = q / 8;
-        let rest = unserved(data[i], mask[i], values[i], served[i]) >> (q % 8);
+        let rest = left(data, mask, values, served[q / 8], q);
         if rest == 0 {
-            q = 8 * i + 8;
+            q = 8 * (q / 8) + 8;
         } else {
             if n <= a {
                 return Plan {
@@ -54,10 +52,12 @@ pub fn planned(
     }
 }
 
-// The unserved positions of one byte.
-fn unserved(wanted: u8, mask: u8, value: u8, served: u8) -> u8
-    ensures { λ r. ⌜ ((k : ℕ) → has r k ≡ (has mask k && xor (has wanted k) (has value k) && not (has served k))) ⌝ }
+// What is unserved in q's byte from q on, where the byte of served positions is given.
+fn left(data: &[u8], mask: &[u8], values: &[u8], served: u8, q: usize) -> u8
+    requires { ⌜ (q < 512) × (length (now «data») ≡ 64) × (length (now mask) ≡ 64) × (length (now values) ≡ 64) ⌝ }
+    ensures { λ r. ⌜ ((k : ℕ) → has r k ≡ unservedFrom (now («data» .entry)) (now (mask .entry)) (now (values .entry)) served q k) ⌝ }
 {
-    let wrong = mask & (wanted ^ value);
-    wrong ^ (wrong & served)
+    let i = q / 8;
+    let wrong = mask[i] & (data[i] ^ values[i]);
+    (wrong ^ (wrong & served)) >> (q % 8)
 }

@@ -10,23 +10,15 @@ use Rattle.pointer.proofs.RowLaws.{write-unmeasured, write-sized}
 use Rattle.pointer.proofs.write.Statement.{statement}
 use Rattle.pointer.proofs.write.Tie as tie
 
-judged : (c : tie.After-measured) → let g = c .before .before .before .before .before .before .before .before .before .args in
+judged : (c : tie.After-measured) → let g = c .before .before .before .before .before .before .before .args in
     c .measured .result ≡ measured (g .n) (eqb (length (g .«data» .now)) 64 && eqb (length (g .mask .now)) 64 && eqb (length (g .values .now)) 64 && eqb (length (g .cells .now)) 64) (length (g .metadata .now))
-judged c =
-    let g = c .before .before .before .before .before .before .before .before .before .args in
-    c .measured .ensures
-    ∙ ap (λ t. measured (g .n) t (length (g .metadata .now)))
-    (c .before .both3 .ensures ∙ ap (λ t. t && eqb (length (g .cells .now)) 64) (c .before .before .both2 .ensures ∙ ap (λ t. t && eqb (length (g .values .now)) 64) (c .before .before .before .both .ensures)))
+judged c = let g = c .before .before .before .before .before .before .before .args in c .measured .ensures ∙ ap (λ t. measured (g .n) t (length (g .metadata .now))) (c .before .fixed .ensures)
 
 pub write-spec : {M : Type 1} → statement M
 write-spec =
     tie.close
     (tie.spec
-    -- both-requires
-    (λ c κs. search needs)
-    -- both-requires-2
-    (λ c κs. search needs)
-    -- both-requires-3
+    -- fixed-requires
     (λ c κs. search needs)
     -- measured-requires
     (λ c κs. search needs)

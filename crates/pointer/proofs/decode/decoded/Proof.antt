@@ -11,8 +11,8 @@ decoded-spec =
     (tie.spec
     -- load-requires
     (λ c κs. search needs)
-    -- byte-requires
-    (λ c κs. search needs)
+    -- shared-slice-read-count
+    (λ c. search needs)
     -- sub-count
     (λ c. search needs)
     -- mul-count
@@ -35,4 +35,4 @@ decoded-spec =
     (λ c.
     let l = c .before .before .before .before .before .before .load .ensures in
     let g = c .before .before .before .before .before .before .before .before .pre in
-    decoded _ _ _ l _ _ _ _ _ (g .0) (g .2) (counted _ _ _ l _ _ (g .0) (c .before .before .before .before .before .byte .ensures .0) (c .before .before .before .before .count .ensures .0)) (c .before .formed .ensures) (c .before .before .before .marked .ensures) (c .lowest .ensures)))
+    decoded _ _ _ l _ _ _ _ _ (g .0) (g .2) (counted _ _ _ l _ (g .0) (c .before .before .before .before .count .ensures .0)) (c .before .formed .ensures) (c .before .before .before .marked .ensures) (c .lowest .ensures)))

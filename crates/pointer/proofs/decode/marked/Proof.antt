@@ -1,7 +1,5 @@
 -- `marked` marks entry by entry. Assumes nothing.
 use Prim.Native.Nat.{_-_, _≤_}
-use mathlib.Core.Path.{ap, _∙_}
-use mathlib.Core.Bool.{_||_}
 use native.Mathlib.Omega.{arith}
 use Rattle.pointer.proofs.DecodeLaws.{Marking, mark-start, mark-more, mark-done}
 use Rattle.pointer.proofs.decode.marked.Statement.{statement}
@@ -26,10 +24,8 @@ marked-spec =
     (λ c. omega arith)
     -- array-read-b
     (λ c. omega arith)
-    -- bit-requires
+    -- again-requires
     (λ c κs. omega arith)
-    -- either-requires
-    (λ c κs. tt)
     -- with-bit-requires
     (λ c κs. omega arith)
     -- array-write-served
@@ -40,7 +36,7 @@ marked-spec =
     (λ c. omega arith)
     -- loop-again
     (λ c.
-    let l = c .before .before .before .before .loop in
-    (omega arith, mark-more (c .before .before .before .before .before .args .t1) (l .i) _ _ _ _ (omega arith) (l .inv .1) (c .before .either .ensures ∙ ap (λ t. l .repeated || t) (c .before .before .bit .ensures)) (c .with-bit .ensures)))
+    let l = c .before .before .before .loop in
+    (omega arith, mark-more (c .before .before .before .before .args .t1) (l .i) _ _ _ _ (omega arith) (l .inv .1) (c .before .again .ensures) (c .with-bit .ensures)))
     -- returns
     (λ c. mark-done (c .before .before .args .t1) (c .before .loop .i) (c .before .before .args .a) _ _ (omega arith) (c .before .loop .inv .1)))

@@ -1,6 +1,5 @@
 -- `planned` goes from one unserved position to the next. Assumes nothing.
-use Prim.Native.Nat.{ℕ, _+_, _-_, _/_, _%_, _^_}
-use mathlib.Core.Bool.{Bool}
+use Prim.Native.Nat.{_+_, _-_}
 use lib.Count.{trailingZeros}
 use lib.ListN.{take}
 use native.Mathlib.Omega.{arith}
@@ -16,12 +15,11 @@ abbrev μ-loop : tie.MeasureT-loop
 μ-loop n «data» mask values held served es₀ a₀ q₀ es a q = 512 - q
 
 -- where something is left of the byte, the next unserved position
-next : (c : tie.Else1 Inv-loop μ-loop) → let g = c .before .before .before .before .before .before .before .before .before .before .args in let q = c .before .before .before .before .before .before .loop .q in
-    Next (unservedAt (g .«data» .now) (g .mask .now) (g .values .now) (g .t5)) q (q + trailingZeros 8 (c .before .unserved .result / 2 ^ (q % 8)))
+next : (c : tie.Else1 Inv-loop μ-loop) → let g = c .before .before .before .before .before .before .before .args in let q = c .before .before .before .loop .q in
+    Next (unservedAt (g .«data» .now) (g .mask .now) (g .values .now) (g .t5)) q (q + trailingZeros 8 (c .before .left .result))
 next c =
-    let g = c .before .before .before .before .before .before .before .before .before .before .args in
-    let q = c .before .before .before .before .before .before .loop .q in
-    next-is (g .«data» .now) (g .mask .now) (g .values .now) (g .t5) q (c .before .unserved .result) (c .before .unserved .ensures) (omega (arith, c .before .unserved .ok)) (c .if1 .left)
+    let g = c .before .before .before .before .before .before .before .args in
+    next-is (g .«data» .now) (g .mask .now) (g .values .now) (g .t5) (c .before .before .before .loop .q) (c .before .left .result) (c .before .left .ensures) (omega (arith, c .before .left .ok)) (c .if1 .left)
 
 pub planned-spec : {M : Type 1} → statement M
 planned-spec =
@@ -30,20 +28,10 @@ planned-spec =
     Inv-loop μ-loop
     -- loop-holds
     (λ c. plan-start _ _ _ _ (omega arith) (omega arith))
-    -- shared-slice-read-unserved
+    -- array-read-left
     (λ c. omega arith)
-    -- shared-slice-read-unserved-2
-    (λ c. omega arith)
-    -- shared-slice-read-unserved-3
-    (λ c. omega arith)
-    -- array-read-unserved
-    (λ c. omega arith)
-    -- unserved-requires
-    (λ c κs. tt)
-    -- cast-rest
-    (λ c. omega arith)
-    -- shr-rest
-    (λ c. omega arith)
+    -- left-requires
+    (λ c κs. omega arith)
     -- mul-q
     (λ c. omega arith)
     -- add-q
@@ -52,11 +40,11 @@ planned-spec =
     (λ c. omega arith)
     -- loop-again
     (λ c.
-    let g = c .before .before .before .before .before .before .before .before .before .before .args in
-    let l = c .before .before .before .before .before .before .loop in
-    plan-skip _ _ (omega arith) _ _ _ (l .q) (l .inv) (omega arith) (none-left (g .«data» .now) (g .mask .now) (g .values .now) (g .t5) (l .q) _ (c .before .unserved .ensures) (c .if1 .taken)))
+    let g = c .before .before .before .before .before .before .before .args in
+    let l = c .before .before .before .loop in
+    plan-skip _ _ (omega arith) _ _ _ (l .q) (l .inv) (omega arith) (none-left (g .«data» .now) (g .mask .now) (g .values .now) (g .t5) (l .q) _ (c .before .left .ensures) (c .if1 .taken)))
     -- returns
-    (λ c. plan-full _ _ (omega arith) _ _ _ _ (c .before .before .before .before .before .before .before .loop .inv) _ (omega arith) (next (c .before)) (omega arith) _)
+    (λ c. plan-full _ _ (omega arith) _ _ _ _ (c .before .before .before .before .loop .inv) _ (omega arith) (next (c .before)) (omega arith) _)
     -- cast-p
     (λ c. omega (arith, next (c .before) .within))
     -- add-p
@@ -72,6 +60,6 @@ planned-spec =
     -- loop-less-2
     (λ c. omega arith)
     -- loop-again-2
-    (λ c. plan-more _ _ (omega arith) _ _ _ _ (c .before .before .before .before .before .before .before .loop .inv) _ (omega arith) (next (c .before)) (omega arith))
+    (λ c. plan-more _ _ (omega arith) _ _ _ _ (c .before .before .before .before .loop .inv) _ (omega arith) (next (c .before)) (omega arith))
     -- returns-2
     (λ c. plan-done _ _ (omega arith) _ _ _ _ (c .before .loop .inv) (omega arith)))
