@@ -11,7 +11,7 @@ use lib.ListN.{length, getD}
 use Rattle.bits.specs.Bits.{at, bytes, Below}
 use Rattle.bits.proofs.TestLaws.{and-left, and-right, eqb-same}
 use Rattle.bits.proofs.ByteLaws.{length-bytes, at-bytes, is-bytes, bytes-ext}
-use Rattle.pointer.specs.Pointer.{size, pointer, replacement, entry, active, held, shown, unserved, after, stored, encode, measured, verdict, readNumber, needed, writeJudged, writeNumber}
+use Rattle.pointer.specs.Pointer.{size, pointer, replacement, entry, active, held, shown, unserved, after, activeAfter, stored, encode, measured, verdict, readNumber, needed, writeJudged, writeNumber}
 use Rattle.pointer.specs.Promises.{Read, Write}
 use Rattle.pointer.proofs.MetadataLaws.{length-held, getD-held}
 use Rattle.pointer.proofs.CodecLaws.{Fits, length-encode, entry-encode, active-encode, held-encode, verdict-encode}
@@ -47,6 +47,7 @@ module _ (n : ℕ) (wanted mask values cells m : List ℕ) where
     stuck = λ z. absurd (h z);
     noted = λ z. absurd (h z);
     kept = λ z. absurd (h z);
+    adds = λ z. absurd (h z);
     renews = λ z. absurd (h z);
     serves = λ z. absurd (h z);
     rises = λ z. absurd (h z);
@@ -64,6 +65,10 @@ module _ (n : ℕ) (wanted mask values cells m : List ℕ) where
     length-row : length row ≡ active n m + needed wanted mask values (held n m)
     unfolding row es
     length-row = length-after wanted mask values es ∙ ap (λ a. a + needed wanted mask values es) (length-held n m)
+
+    adds : activeAfter n wanted mask values m ≡ active n m + needed wanted mask values (held n m)
+    unfolding activeAfter row es
+    adds = length-row
 
     fits : Fits n row
     unfolding row
@@ -120,7 +125,7 @@ module _ (n : ℕ) (wanted mask values cells m : List ℕ) where
         (λ p h. sym (rw (held-encode n row fits, at-bytes 64 (stored wanted mask values) p h) (after-shows wanted mask values es p h))))
 
     exact : 0 ≡ writeNumber n wanted mask values (length cells) m → Below 256 wanted
-        → Write n wanted mask values cells m (record { number = 0; active = active n m + needed wanted mask values (held n m); new = needed wanted mask values (held n m) })
+        → Write n wanted mask values cells m (record { number = 0; active = activeAfter n wanted mask values m; new = needed wanted mask values (held n m) })
         (bytes 64 (stored wanted mask values)) (encode n (after wanted mask values (held n m)))
     unfolding exit row es
     exact e b = record {
@@ -132,15 +137,16 @@ module _ (n : ℕ) (wanted mask values cells m : List ℕ) where
       full = full 0 e;
       sound = λ _. held-at false;
       stuck = λ _. held-at true;
-      noted = λ _. sym counted;
+      noted = λ _. adds ∙ sym counted;
+      adds = λ _. adds;
       kept = λ _. kept;
-      renews = λ _. renews;
-      serves = λ _. serves;
-      rises = λ _. rises;
+      renews = λ _ e h. renews e (subst (λ x. e < x) adds h);
+      serves = λ _ e k h. serves e k (subst (λ x. e < x) adds h);
+      rises = λ _ e f k d h. rises e f k d (subst (λ x. f < x) adds h);
       reads = λ _. reads b;
     }
 
-  pub write-accepted : (a k : ℕ) (cells′ m′ : List ℕ) → 0 ≡ writeNumber n wanted mask values (length cells) m → Below 256 wanted → k ≡ needed wanted mask values (held n m)
-      → a ≡ active n m + k → cells′ ≡ bytes 64 (stored wanted mask values) → m′ ≡ encode n (after wanted mask values (held n m))
+  pub write-accepted : (a k : ℕ) (cells′ m′ : List ℕ) → 0 ≡ writeNumber n wanted mask values (length cells) m → Below 256 wanted → a ≡ activeAfter n wanted mask values m
+      → k ≡ needed wanted mask values (held n m) → cells′ ≡ bytes 64 (stored wanted mask values) → m′ ≡ encode n (after wanted mask values (held n m))
       → Write n wanted mask values cells m (record { number = 0; active = a; new = k }) cells′ m′
-  write-accepted a k cells′ m′ e b hk ha hc hm = rw (hc, hm, ha, hk) (exact (write-zero n wanted mask values (length cells) m (sym e)) e b)
+  write-accepted a k cells′ m′ e b ha hk hc hm = rw (hc, hm, ha, hk) (exact (write-zero n wanted mask values (length cells) m (sym e)) e b)

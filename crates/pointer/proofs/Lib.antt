@@ -5,6 +5,7 @@ pub mod CodecLaws
 pub mod NumberLaws
 pub mod AfterLaws
 pub mod Demands
+pub mod Examples
 pub mod Unique
 pub mod OctetLaws
 pub mod CellLaws

@@ -43,11 +43,11 @@ unary-ones a h = is-word 10 (2 ^ a - 1) (λ k. ltb k a) (omega (arith, pow-mono 
 
 pub active-full : (n : ℕ) (m : List ℕ) → at m 0 ≡ true → active n m ≡ n
 unfolding active
-active-full n m h = rw h
+active-full n m h = ap (λ t. cond t n (sum (n - 1) (λ k. num (has (entry m (n - 1)) k)))) h
 
 pub active-unary : (n : ℕ) (m : List ℕ) → at m 0 ≡ false → active n m ≡ sum (n - 1) (λ k. num (has (entry m (n - 1)) k))
 unfolding active
-active-unary n m h = rw h
+active-unary n m h = ap (λ t. cond t n (sum (n - 1) (λ k. num (has (entry m (n - 1)) k)))) h
 
 pub active-part : (n : ℕ) (m : List ℕ) → 1 ≤ n → at m 0 ≡ false → active n m < n
 active-part n m l h = omega (arith, active-unary n m h, sum-num-le (n - 1) (has (entry m (n - 1))))

@@ -84,25 +84,19 @@ verdict-zero n m h = let (a, b, c) = go (spare n m) (formed n m) (repeats (held 
 
 -- ---- a write
 
--- 6 exactly where the active entries and the unserved positions are more than n
 module _ (n : ℕ) (wanted mask values : List ℕ) (cells : ℕ) (m : List ℕ) where
-  over : Bool
-  over = ltb n (active n m + needed wanted mask values (held n m))
-
-  judged-over : writeJudged n wanted mask values cells m ≡ 0 → writeNumber n wanted mask values cells m ≡ cond over 6 0
-  unfolding writeNumber over
-  judged-over j = rw j
-
+  -- 6 exactly where the active entries and the unserved positions are more than n
   pub full-exactly : writeJudged n wanted mask values cells m ≡ 0 → (writeNumber n wanted mask values cells m ≡ 6) ↔ (n < active n m + needed wanted mask values (held n m))
-  unfolding over
-  full-exactly j = (
-    λ h. go over refl (sym (judged-over j) ∙ h),
-    λ l. judged-over j ∙ ap (λ t. cond t 6 0) (lt-ltb n (active n m + needed wanted mask values (held n m)) l),
-  )
+  unfolding writeNumber
+  full-exactly j =
+      let e : writeNumber n wanted mask values cells m ≡ cond (ltb n (active n m + needed wanted mask values (held n m))) 6 0 = rw j in (
+        λ h. over (ltb n (active n m + needed wanted mask values (held n m))) refl (sym e ∙ h),
+        λ l. e ∙ ap (λ t. cond t 6 0) (lt-ltb n (active n m + needed wanted mask values (held n m)) l),
+      )
     where
-      go : (t : Bool) → over ≡ t → _≡_ {A = ℕ} (cond t 6 0) 6 → n < active n m + needed wanted mask values (held n m)
-      go true e h = ltb-true n (active n m + needed wanted mask values (held n m)) e
-      go false e h = absurd (omega arith)
+      over : (t : Bool) → ltb n (active n m + needed wanted mask values (held n m)) ≡ t → _≡_ {A = ℕ} (cond t 6 0) 6 → n < active n m + needed wanted mask values (held n m)
+      over true e h = ltb-true n (active n m + needed wanted mask values (held n m)) e
+      over false e h = absurd (omega arith)
 
   -- what an accepted write tells
   pub record Accepted : Type 0 where
@@ -118,15 +112,18 @@ module _ (n : ℕ) (wanted mask values : List ℕ) (cells : ℕ) (m : List ℕ) 
       eqb-true (length wanted) 64 (and-left w k (and-left (w && k) v (and-left (w && k && v) (eqb cells 64) (a .sizes .sized))))
 
   pub write-zero : writeNumber n wanted mask values cells m ≡ 0 → Accepted
-  unfolding writeNumber writeJudged over
+  unfolding writeNumber writeJudged
   write-zero h =
-      let (j, k) = or-else-zero (writeJudged n wanted mask values cells m) (cond over 6 0) h in
+      let (j, k) = or-else-zero (writeJudged n wanted mask values cells m) (cond (ltb n total) 6 0) h in
       let (a, b) = or-else-zero (measured n fixed (length m)) (verdict n m) j in
-      record { sizes = measured-zero n fixed (length m) a; clean = verdict-zero n m b; few = go over refl k }
+      record { sizes = measured-zero n fixed (length m) a; clean = verdict-zero n m b; few = go (ltb n total) refl k }
     where
       fixed : Bool
       fixed = eqb (length wanted) 64 && eqb (length mask) 64 && eqb (length values) 64 && eqb cells 64
 
-      go : (t : Bool) → over ≡ t → _≡_ {A = ℕ} (cond t 6 0) 0 → active n m + needed wanted mask values (held n m) ≤ n
+      total : ℕ
+      total = active n m + needed wanted mask values (held n m)
+
+      go : (t : Bool) → ltb n total ≡ t → _≡_ {A = ℕ} (cond t 6 0) 0 → total ≤ n
       go true e q = absurd (omega arith)
-      go false e q = ltb-false n (active n m + needed wanted mask values (held n m)) e
+      go false e q = ltb-false n total e

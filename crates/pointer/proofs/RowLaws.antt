@@ -7,10 +7,10 @@ use Prim.Native.Nat.{ℕ, zero, suc, _+_, _-_, _≤_, _<_}
 use native.Mathlib.Omega.{arith}
 use borrow.Author.Tests.{eqb-true}
 use lib.Dec.{eqb, ltb}
-use lib.ListN.{length, take, length-append}
+use lib.ListN.{length, take, length-append, length-map}
 use Rattle.bits.specs.Bits.{list, at, bytes, Below}
 use Rattle.bits.proofs.TestLaws.{and-left, and-right}
-use Rattle.pointer.specs.Pointer.{size, entry, active, held, names, shown, unserved, positions, renewed, after, stored, encode, orElse, measured, verdict, readNumber, needed, writeJudged, writeNumber}
+use Rattle.pointer.specs.Pointer.{size, entry, active, held, names, shown, unserved, positions, renewed, after, activeAfter, stored, encode, orElse, measured, verdict, readNumber, needed, writeJudged, writeNumber}
 use Rattle.pointer.specs.Promises.{Read, Write}
 use Rattle.pointer.specs.Steps.{refusal, Sized, Decoded, unservedAt, Planned}
 use Rattle.pointer.proofs.PositionLaws.{length-positions, positions-ext}
@@ -121,7 +121,8 @@ module _ (n : ℕ) (wanted mask values cells m : List ℕ) where
 
       pub write-planned : (y : j ≡ 0) (cells′ m′ : List ℕ) → Below 256 wanted → cells′ ≡ bytes 64 (stored wanted mask values) → m′ ≡ encode n (map (renewed wanted) (take b fs))
           → Write n wanted mask values cells m (record { number = 0; active = b; new = b - a }) cells′ m′
-      unfolding after row
+      unfolding activeAfter after row
       write-planned y cells′ m′ w hc hm =
-          write-accepted n wanted mask values cells m b (b - a) cells′ m′ (sym y ∙ planned-number) w (omega (arith, p .count y, ap length is-row, length-row, d .count)) (omega (arith, planned-few y, d .count)) hc
+          let l : b ≡ length row = p .count y ∙ ap length is-row in
+          write-accepted n wanted mask values cells m b (b - a) cells′ m′ (sym y ∙ planned-number) w (l ∙ sym (length-map row (renewed wanted))) (omega (arith, length-row, d .count)) hc
           (hm ∙ ap (λ l. encode n (map (renewed wanted) l)) (p .planned y ∙ is-row))

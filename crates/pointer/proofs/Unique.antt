@@ -11,7 +11,7 @@ use lib.ListN.{length}
 use Rattle.bits.specs.Bits.{num, sum, at, bytes}
 use Rattle.bits.proofs.BoundLaws.{sum-ext}
 use Rattle.bits.proofs.ByteLaws.{bytes-ext}
-use Rattle.pointer.specs.Pointer.{active, held, names, unserved, positions, renewed, after, stored, encode, orElse, measured, verdict, needed, writeJudged, writeNumber}
+use Rattle.pointer.specs.Pointer.{held, names, unserved, positions, renewed, after, activeAfter, stored, encode, orElse, measured, verdict, needed, writeJudged, writeNumber}
 use Rattle.pointer.specs.Promises.{Read, Write}
 use Rattle.pointer.specs.declared.ReadAnswer.{ReadAnswer}
 use Rattle.pointer.specs.declared.WriteAnswer.{WriteAnswer}
@@ -33,6 +33,10 @@ module _ (n : ℕ) (wanted mask values values₂ cells m : List ℕ)
     (stores : bytes 64 (stored wanted mask values) ≡ bytes 64 (stored wanted mask values₂))
     (entries : after wanted mask values (held n m) ≡ after wanted mask values₂ (held n m))
     (counts : needed wanted mask values (held n m) ≡ needed wanted mask values₂ (held n m)) where
+  actives : activeAfter n wanted mask values m ≡ activeAfter n wanted mask values₂ m
+  unfolding activeAfter
+  actives = ap length entries
+
   same : (a b : WriteAnswer) (c d k l : List ℕ) → Write n wanted mask values cells m a c k → Write n wanted mask values₂ cells m b d l → (a ≡ b) × (c ≡ d) × (k ≡ l)
   same a b c d k l r s = go (ℕ-discrete (a .number) 0)
     where
@@ -42,8 +46,8 @@ module _ (n : ℕ) (wanted mask values values₂ cells m : List ℕ)
       go : Dec (a .number ≡ 0) → (a ≡ b) × (c ≡ d) × (k ≡ l)
       go (yes z) =
           let y : b .number ≡ 0 = sym number ∙ z in
-          let new : a .new ≡ b .new = r .counts z .0 ∙ counts ∙ sym (s .counts y .0) in
-          let active : a .active ≡ b .active = r .counts z .1 ∙ ap (λ x. active n m + x) new ∙ sym (s .counts y .1) in (
+          let active : a .active ≡ b .active = r .counts z .0 ∙ actives ∙ sym (s .counts y .0) in
+          let new : a .new ≡ b .new = r .counts z .1 ∙ counts ∙ sym (s .counts y .1) in (
             λ i. record { number = number i; active = active i; new = new i },
             r .stores z ∙ stores ∙ sym (s .stores y),
             r .encodes z ∙ ap (encode n) entries ∙ sym (s .encodes y),

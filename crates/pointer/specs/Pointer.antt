@@ -90,6 +90,10 @@ renewed wanted e = entryOf (pointer e) (at wanted (pointer e))
 unfoldable pub after : List ℕ → List ℕ → List ℕ → List ℕ → List ℕ
 after wanted mask values es = map (renewed wanted) (es ++ positions 512 (unserved wanted mask values es))
 
+-- how many entries are active afterwards
+unfoldable pub activeAfter : ℕ → List ℕ → List ℕ → List ℕ → List ℕ → ℕ
+activeAfter n wanted mask values m = length (after wanted mask values (held n m))
+
 -- what the cell at p holds afterwards: a stuck one its stuck value, a sound one its wanted bit
 unfoldable pub stored : List ℕ → List ℕ → List ℕ → ℕ → Bool
 stored wanted mask values p = cond (at mask p) (at values p) (at wanted p)

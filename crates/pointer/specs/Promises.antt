@@ -6,7 +6,7 @@ use mathlib.Core.List.{List}
 use mathlib.Core.Logic.{_↔_, _≢_}
 use lib.ListN.{length}
 use Rattle.bits.specs.Bits.{at, bytes}
-use Rattle.pointer.specs.Pointer.{pointer, replacement, entry, active, held, shown, unserved, after, stored, encode, readNumber, needed, writeJudged, writeNumber}
+use Rattle.pointer.specs.Pointer.{pointer, replacement, entry, active, held, shown, unserved, after, activeAfter, stored, encode, readNumber, needed, writeJudged, writeNumber}
 use Rattle.pointer.specs.declared.ReadAnswer.{ReadAnswer}
 use Rattle.pointer.specs.declared.WriteAnswer.{WriteAnswer}
 
@@ -26,14 +26,15 @@ pub record Write (n : ℕ) (wanted mask values cells metadata : List ℕ) (answe
   -- else the cells, the metadata and the counts are exactly these
   pub stores : answer .number ≡ 0 → cells′ ≡ bytes 64 (stored wanted mask values)
   pub encodes : answer .number ≡ 0 → metadata′ ≡ encode n (after wanted mask values (held n metadata))
-  pub counts : answer .number ≡ 0 → (answer .new ≡ needed wanted mask values (held n metadata)) × (answer .active ≡ active n metadata + answer .new)
+  pub counts : answer .number ≡ 0 → (answer .active ≡ activeAfter n wanted mask values metadata) × (answer .new ≡ needed wanted mask values (held n metadata))
   -- 6 exactly where the active entries and the unserved positions are more than n
   pub full : writeJudged n wanted mask values (length cells) metadata ≡ 0 → (answer .number ≡ 6) ↔ (n < active n metadata + needed wanted mask values (held n metadata))
   -- a sound cell takes its wanted bit, a stuck one holds its stuck value
   pub sound : answer .number ≡ 0 → (p : ℕ) → p < 512 → at mask p ≡ false → at cells′ p ≡ at wanted p
   pub stuck : answer .number ≡ 0 → (p : ℕ) → p < 512 → at mask p ≡ true → at cells′ p ≡ at values p
-  -- the active count is the one that the stored metadata says
+  -- the active count is the one that the stored metadata says, and the new ones are the difference
   pub noted : answer .number ≡ 0 → answer .active ≡ active n metadata′
+  pub adds : answer .number ≡ 0 → answer .active ≡ active n metadata + answer .new
   -- an active entry keeps its place and pointer, and each entry has the wanted bit of its position
   pub kept : answer .number ≡ 0 → (e : ℕ) → e < active n metadata → pointer (entry metadata′ e) ≡ pointer (entry metadata e)
   pub renews : answer .number ≡ 0 → (e : ℕ) → e < answer .active → replacement (entry metadata′ e) ≡ at wanted (pointer (entry metadata′ e))

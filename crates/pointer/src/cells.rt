@@ -11,10 +11,10 @@ pub fn copy(cells: &[u8], out: &mut [u8])
     requires { ⌜ (length (now cells) ≡ 64) × (length (now out) ≡ 64) ⌝ }
     ensures { λ _. ⌜ now (out .exit) ≡ now (cells .entry) ⌝ }
 {
-    let mut j = 0;
-    while j < 64 {
-        out[j] = cells[j];
-        j += 1;
+    let mut i = 0;
+    while i < 64 {
+        out[i] = cells[i];
+        i += 1;
     }
 }
 

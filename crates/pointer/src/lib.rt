@@ -129,16 +129,16 @@ fn write_row(
     ensures { λ r. ⌜ Write n (now («data» .entry)) (now (mask .entry)) (now (values .entry)) (now (cells .entry)) (now (metadata .entry)) r (now (cells .exit)) (now (metadata .exit)) ⌝ }
 {
     let row = decode::decoded(n, metadata);
-    let k = row.number;
-    if 0 < k {
-        return refused(k);
+    let bad = row.number;
+    if 0 < bad {
+        return refused(bad);
     }
     let old = row.entries;
     let served = row.served;
     let plan = plan::planned(n, data, mask, values, served, old, row.active);
-    let k = plan.number;
-    if 0 < k {
-        return refused(k);
+    let full = plan.number;
+    if 0 < full {
+        return refused(full);
     }
     let es = plan.entries;
     cells::store(data, mask, values, cells);

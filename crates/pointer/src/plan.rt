@@ -32,7 +32,7 @@ pub fn planned(
         if rest == 0 {
             q = 8 * (q / 8) + 8;
         } else {
-            if n <= a {
+            if n < a + 1 {
                 return Plan {
                     number: 6,
                     active: 0,

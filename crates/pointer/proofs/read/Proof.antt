@@ -23,7 +23,7 @@ read-spec =
     -- measured-requires
     (λ c κs. search needs)
     -- returns
-    (λ c. read-unmeasured _ _ _ _ _ (judged (c .before)) (c .if1 .taken))
+    (λ c. read-unmeasured _ _ _ _ _ (judged (c .before)) (omega arith))
     -- read-row-requires
     (λ c κs.
     let g = c .before .before .before .before .before .before .before .args in

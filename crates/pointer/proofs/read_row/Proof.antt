@@ -16,7 +16,7 @@ read-row-spec =
     -- decoded-requires
     (λ c κs. search needs)
     -- returns
-    (λ c. read-judged _ _ _ _ (c .before .before .before .before .before .pre) _ _ _ _ (c .before .decoded .ensures) (c .if1 .taken))
+    (λ c. read-judged _ _ _ _ (c .before .before .before .before .before .pre) _ _ _ _ (c .before .decoded .ensures) (omega arith))
     -- copy-requires
     (λ c κs. search needs)
     -- patch-requires

@@ -25,7 +25,7 @@ write-spec =
     -- refused-requires
     (λ c κs. search needs)
     -- returns
-    (λ c. rw (c .refused .ensures) (write-unmeasured _ _ _ _ _ _ _ (judged (c .before .before)) (c .before .if1 .taken)))
+    (λ c. rw (c .refused .ensures) (write-unmeasured _ _ _ _ _ _ _ (judged (c .before .before)) (omega arith)))
     -- write-row-requires
     (λ c κs. let z : c .before .before .before .measured .result ≡ 0 = omega arith in write-sized _ _ _ _ _ _ (sym (judged (c .before .before .before)) ∙ z))
     -- same-length

@@ -17,7 +17,7 @@ write-row-spec =
     -- same-length
     (λ c. search needs)
     -- returns
-    (λ c. rw (c .refused .ensures) (write-judged _ _ _ _ _ _ (c .before .before .before .before .before .before .before .before .before .pre) _ _ _ _ (c .before .before .decoded .ensures) (c .before .if1 .taken)))
+    (λ c. rw (c .refused .ensures) (write-judged _ _ _ _ _ _ (c .before .before .before .before .before .before .before .before .before .pre) _ _ _ _ (c .before .before .decoded .ensures) (omega arith)))
     -- planned-requires
     (λ c κs. search needs)
     -- refused-requires-2
@@ -27,7 +27,7 @@ write-row-spec =
     -- returns-2
     (λ c.
     rw (c .refused2 .ensures)
-    (write-full _ _ _ _ _ _ (c .before .before .before .before .before .before .before .before .before .before .before .before .before .pre) _ _ _ _ (c .before .before .before .before .before .before .decoded .ensures) (omega arith) _ _ _ (c .before .before .planned .ensures) (c .before .if2 .taken)))
+    (write-full _ _ _ _ _ _ (c .before .before .before .before .before .before .before .before .before .before .before .before .before .pre) _ _ _ _ (c .before .before .before .before .before .before .decoded .ensures) (omega arith) _ _ _ (c .before .before .planned .ensures) (omega arith)))
     -- store-requires
     (λ c κs. search needs)
     -- store-requires-2

@@ -1,4 +1,4 @@
--- `copy` copies: after j turns the first j bytes are the cells'. Assumes nothing.
+-- `copy` copies: after i turns the first i bytes are the cells'. Assumes nothing.
 use Prim.Native.Nat.{_-_, _≤_}
 use mathlib.Core.Path.{_≡_, refl}
 use lib.ListN.{length, getD, take, length-set}
@@ -10,10 +10,10 @@ use Rattle.pointer.proofs.cells.copy.Statement.{statement}
 use Rattle.pointer.proofs.cells.copy.Tie as tie
 
 abbrev Inv-loop : tie.InvT-loop
-Inv-loop cells out₀ j₀ out j = (length out ≡ 64) × (j ≤ 64) × (take j out ≡ list j (λ i. getD cells i 0))
+Inv-loop cells out₀ i₀ out i = (length out ≡ 64) × (i ≤ 64) × (take i out ≡ list i (λ k. getD cells k 0))
 
 abbrev μ-loop : tie.MeasureT-loop
-μ-loop cells out₀ j₀ out j = 64 - j
+μ-loop cells out₀ i₀ out i = 64 - i
 
 pub copy-spec : {M : Type 1} → statement M
 copy-spec =
@@ -26,13 +26,13 @@ copy-spec =
     (λ c. omega arith)
     -- slice-write-out
     (λ c. omega arith)
-    -- add-j
+    -- add-i
     (λ c. omega arith)
     -- loop-less
     (λ c. omega arith)
     -- loop-again
-    (λ c. let i = c .before .before .loop .inv in (simp length-set (i .0), omega arith, list-more _ _ _ _ (omega arith) (i .2) refl))
+    (λ c. let h = c .before .before .loop .inv in (simp length-set (h .0), omega arith, list-more _ _ _ _ (omega arith) (h .2) refl))
     -- same-length
     (λ c. omega arith)
     -- returns
-    (λ c. let i = c .before .loop .inv in copy-done _ _ _ (omega arith) (i .0) (omega arith) (i .2)))
+    (λ c. let h = c .before .loop .inv in copy-done _ _ _ (omega arith) (h .0) (omega arith) (h .2)))

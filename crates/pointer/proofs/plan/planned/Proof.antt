@@ -43,6 +43,8 @@ planned-spec =
     let g = c .before .before .before .before .before .before .before .args in
     let l = c .before .before .before .loop in
     plan-skip _ _ (omega arith) _ _ _ (l .q) (l .inv) (omega arith) (none-left (g .«data» .now) (g .mask .now) (g .values .now) (g .t5) (l .q) _ (c .before .left .ensures) (c .if1 .taken)))
+    -- add-if2
+    (λ c. omega arith)
     -- returns
     (λ c. plan-full _ _ (omega arith) _ _ _ _ (c .before .before .before .before .loop .inv) _ (omega arith) (next (c .before)) (omega arith) _)
     -- cast-p
