@@ -1,8 +1,7 @@
 -- Laws of the entries after a write: how many they are, that no two name the same position, and that with them each position shows its wanted bit. Assumes nothing.
-use mathlib.Core.Path.{_≡_, refl, sym, ap, ap₂, _∙_}
+use mathlib.Core.Path.{_≡_, refl, sym, ap, _∙_}
 use mathlib.Core.Bool.{Bool, true, false, not, xor, cond, _&&_, _||_}
-use mathlib.Core.List.{List, _++_, map}
-use mathlib.Core.Logic.{⊎-elim}
+use mathlib.Core.List.{List, _++_}
 use Prim.Native.Nat.{ℕ, _+_, _-_, _≤_, _<_}
 use native.Mathlib.Nat.{mod-eq-of-lt}
 use native.Mathlib.Omega.{arith}

@@ -2,15 +2,13 @@
 use mathlib.Core.Path.{_≡_, refl, sym, ap, ap₂, _∙_}
 use mathlib.Core.Bool.{Bool, cond}
 use mathlib.Core.List.{List}
-use mathlib.Core.Logic.{⊎-elim}
-use Prim.Native.Nat.{ℕ, zero, suc, _+_, _*_, _/_, _%_, _^_, _≤_, _<_}
+use Prim.Native.Nat.{ℕ, _+_, _*_, _/_, _%_, _<_}
 use native.Mathlib.Omega.{arith}
 use native.Mathlib.Numerals.{add-one}
-use native.Mathlib.Decide.{ℕ-discrete}
 use lib.Dec.{eqb}
 use lib.ListN.{length, getD, take, set, length-set}
-use lib.Seq.{take-suc, getD-set-same, getD-set-other}
-use Rattle.bits.specs.Bits.{has, word, at, bytes, list, Below}
+use lib.Seq.{take-suc}
+use Rattle.bits.specs.Bits.{has, at, bytes, list, Below}
 use Rattle.bits.proofs.BoundLaws.{list-getD, list-done}
 use Rattle.bits.proofs.BitLaws.{is-word}
 use Rattle.bits.proofs.ByteLaws.{below-set, at-byte, is-bytes, bytes-more}

@@ -1,19 +1,19 @@
--- Encoding and decoding are inverse, both ways round, and zeros are a fresh row. Assumes nothing.
-use mathlib.Core.Path.{_≡_, refl, sym, ap, ap₂, _∙_}
+-- What is found in metadata that was encoded, and what is encoded of metadata that was found. Assumes nothing.
+use mathlib.Core.Path.{_≡_, refl, sym, ap, _∙_}
 use mathlib.Core.Bool.{Bool, true, false, not, cond, _&&_}
-use mathlib.Core.List.{List, []}
-use mathlib.Core.Logic.{_⊎_, ⊎-elim}
-use Prim.Native.Nat.{ℕ, zero, suc, _+_, _-_, _*_, _/_, _%_, _≤_, _<_, min}
-use native.Mathlib.Nat.{eq-or-lt-of-le, mod-eq-of-lt}
+use mathlib.Core.List.{List}
+use mathlib.Core.Logic.{⊎-elim}
+use Prim.Native.Nat.{ℕ, zero, suc, _+_, _-_, _*_, _/_, _%_, _≤_, _<_}
+use native.Mathlib.Nat.{eq-or-lt-of-le}
 use native.Mathlib.Omega.{arith}
 use borrow.Author.Tests.{le-leb, lt-leb, lt-ltb, le-ltb, eqb-true, eq-eqb, ne-eqb, not-false}
 use lib.Dec.{eqb, ltb, leb}
-use lib.ListN.{length, getD, replicate, length-replicate}
-use Rattle.bits.specs.Bits.{num, some, sum, has, word, at, Below}
-use Rattle.bits.proofs.TestLaws.{true-or-false, lt-or-le, eqb-same, and-left, and-right}
+use lib.ListN.{length, getD}
+use Rattle.bits.specs.Bits.{num, has, at, Below}
+use Rattle.bits.proofs.TestLaws.{true-or-false, lt-or-le, eqb-same}
 use Rattle.bits.proofs.BoundLaws.{some-none, sum-ext, sum-below, list-getD}
 use Rattle.bits.proofs.BitLaws.{has-zero, has-ext}
-use Rattle.bits.proofs.ByteLaws.{getD-zeros, at-zeros, at-bytes, length-bytes, is-bytes}
+use Rattle.bits.proofs.ByteLaws.{at-bytes, length-bytes, is-bytes}
 use Rattle.pointer.specs.Pointer.{size, entry, spare, active, unary, idle, formed, held, repeats, slot, metadataBit, encode, verdict}
 use Rattle.pointer.proofs.MetadataLaws.{has-entry, entry-lt, has-unary, unary-lt, active-full, active-unary, active-part, length-held, getD-held, formed-idle, spare-entry}
 
@@ -39,7 +39,7 @@ slot-in : (n : ℕ) (es : List ℕ) (e : ℕ) → e < length es → slot n es e 
 unfolding slot
 slot-in n es e h = rw (lt-ltb e (length es) h)
 
-slot-idle : (n : ℕ) (es : List ℕ) (e : ℕ) → length es ≤ e → slot n es e ≡ idle n (length es) e
+pub slot-idle : (n : ℕ) (es : List ℕ) (e : ℕ) → length es ≤ e → slot n es e ≡ idle n (length es) e
 unfolding slot
 slot-idle n es e h = rw (le-ltb e (length es) h)
 
@@ -160,31 +160,3 @@ module _ (n : ℕ) (m : List ℕ) (least : 1 ≤ n) (long : length m ≡ size n)
   pub encode-held : Below 256 m → encode n (held n m) ≡ m
   unfolding encode
   encode-held b = sym (is-bytes (size n) (metadataBit n (held n m)) m long b bit-held)
-
--- ---- a fresh row
-
-idle-none : (n e : ℕ) → idle n 0 e ≡ 0
-unfolding idle unary word
-idle-none n e = go (eqb (e + 1) n)
-  where
-    go : (t : Bool) → cond t (unary 0) 0 ≡ 0
-    go true = refl
-    go false = refl
-
-fresh-bit : (n p : ℕ) → 1 ≤ n → metadataBit n [] p ≡ false
-unfolding metadataBit
-fresh-bit n zero l = ne-eqb 0 n (omega arith)
-fresh-bit n (suc p) l = ap (λ x. has x (p % 10)) (slot-idle n [] (p / 10) (omega arith) ∙ idle-none n (p / 10)) ∙ has-zero (p % 10)
-
--- zeros are the metadata of a row that has no active entry
-pub encode-none : (n : ℕ) → 1 ≤ n → encode n [] ≡ replicate (size n) 0
-unfolding encode
-encode-none n l =
-    sym (is-bytes (size n) (metadataBit n []) (replicate (size n) 0) (length-replicate (size n) 0) (λ i. rw (getD-zeros (size n) i) (omega arith)) (λ p h. at-zeros (size n) p ∙ sym (fresh-bit n p l)))
-
--- for every n in range they are well formed, and no entry is active
-pub fresh-row : (n : ℕ) → 1 ≤ n → n ≤ 10 → (verdict n (replicate (size n) 0) ≡ 0) × (active n (replicate (size n) 0) ≡ 0)
-unfolding repeats
-fresh-row n l h =
-    let s : Fits n [] = record { least = l; most = h; few = omega arith; small = λ i. omega arith } in
-    rw (← encode-none n l) (verdict-encode n [] s refl, active-encode n [] s)

@@ -1,21 +1,18 @@
 -- What document 01 demands, proved of the definitions: an answer and buffers that are what the definitions say keep every promise. Assumes nothing.
-use mathlib.Core.Path.{_≡_, refl, sym, ap, ap₂, subst, _∙_}
-use mathlib.Core.Bool.{Bool, true, false, cond, _&&_}
+use mathlib.Core.Path.{_≡_, refl, sym, ap, subst, _∙_}
+use mathlib.Core.Bool.{Bool, true, false, cond}
 use mathlib.Core.List.{List}
 use mathlib.Core.Logic.{_↔_, _≢_}
 use Prim.Native.Nat.{ℕ, _+_, _≤_, _<_}
 use native.Mathlib.Omega.{arith}
-use borrow.Author.Tests.{le-leb, eqb-true, eq-eqb}
-use lib.Dec.{eqb, leb}
 use lib.ListN.{length, getD}
 use Rattle.bits.specs.Bits.{at, bytes, Below}
-use Rattle.bits.proofs.TestLaws.{and-left, and-right, eqb-same}
-use Rattle.bits.proofs.ByteLaws.{length-bytes, at-bytes, is-bytes, bytes-ext}
-use Rattle.pointer.specs.Pointer.{size, pointer, replacement, entry, active, held, shown, unserved, after, activeAfter, stored, encode, measured, verdict, readNumber, needed, writeJudged, writeNumber}
+use Rattle.bits.proofs.ByteLaws.{length-bytes, at-bytes, is-bytes}
+use Rattle.pointer.specs.Pointer.{pointer, replacement, entry, active, held, shown, unserved, after, activeAfter, stored, encode, readNumber, needed, writeJudged, writeNumber}
 use Rattle.pointer.specs.Promises.{Read, Write}
 use Rattle.pointer.proofs.MetadataLaws.{length-held, getD-held}
 use Rattle.pointer.proofs.CodecLaws.{Fits, length-encode, entry-encode, active-encode, held-encode, verdict-encode}
-use Rattle.pointer.proofs.NumberLaws.{Measured, Clean, Accepted, read-ok, full-exactly, wanted-long, write-zero}
+use Rattle.pointer.proofs.NumberLaws.{Accepted, read-ok, full-exactly, wanted-long, write-zero}
 use Rattle.pointer.proofs.AfterLaws.{length-after, after-below, after-replacement, after-old, after-serves, after-rises, after-differs, after-shows}
 
 -- ---- a read

@@ -11,13 +11,13 @@ use borrow.Author.Tests.{lt-ltb, le-ltb}
 use lib.Dec.{eqb, ltb}
 use lib.ListN.{length, getD, take, set, length-map}
 use lib.Seq.{length-take-le, getD-take}
-use Rattle.bits.specs.Bits.{num, list, has, word, at, bytes, number, Below}
+use Rattle.bits.specs.Bits.{num, list, has, at, bytes, number, Below}
 use Rattle.bits.proofs.TestLaws.{lt-or-le, num-eqb}
 use Rattle.bits.proofs.BoundLaws.{getD-list}
 use Rattle.bits.proofs.BitLaws.{is-word}
 use Rattle.bits.proofs.ByteLaws.{below-all, bytes-ext, bytes-more}
 use Rattle.bits.proofs.DigitLaws.{window-bit}
-use Rattle.pointer.specs.Pointer.{size, pointer, idle, renewed, slot, metadataBit, encode}
+use Rattle.pointer.specs.Pointer.{size, idle, renewed, slot, metadataBit, encode}
 use Rattle.pointer.specs.Steps.{digit}
 use Rattle.pointer.proofs.EntryLaws.{renewed-lt, getD-renewed}
 use Rattle.pointer.proofs.CodecLaws.{slot-lt}

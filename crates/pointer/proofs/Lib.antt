@@ -3,10 +3,11 @@ pub mod PositionLaws
 pub mod MetadataLaws
 pub mod CodecLaws
 pub mod NumberLaws
+pub mod Inverse
 pub mod AfterLaws
 pub mod Demands
-pub mod Examples
 pub mod Unique
+pub mod Examples
 pub mod OctetLaws
 pub mod CellLaws
 pub mod DecodeLaws

@@ -2,7 +2,6 @@
 use mathlib.Core.Path.{_≡_, refl, sym, ap, ap₂, _∙_}
 use mathlib.Core.Bool.{Bool, true, not, xor, cond, _&&_}
 use mathlib.Core.List.{List, _++_, map}
-use mathlib.Core.Logic.{_≢_}
 use Prim.Native.Nat.{ℕ, zero, suc, _+_, _-_, _≤_, _<_}
 use native.Mathlib.Omega.{arith}
 use borrow.Author.Tests.{eqb-true}
@@ -12,10 +11,10 @@ use Rattle.bits.specs.Bits.{list, at, bytes, Below}
 use Rattle.bits.proofs.TestLaws.{and-left, and-right}
 use Rattle.pointer.specs.Pointer.{size, entry, active, held, names, shown, unserved, positions, renewed, after, activeAfter, stored, encode, orElse, measured, verdict, readNumber, needed, writeJudged, writeNumber}
 use Rattle.pointer.specs.Promises.{Read, Write}
-use Rattle.pointer.specs.Steps.{refusal, Sized, Decoded, unservedAt, Planned}
+use Rattle.pointer.specs.Steps.{Sized, Decoded, unservedAt, Planned}
 use Rattle.pointer.proofs.PositionLaws.{length-positions, positions-ext}
 use Rattle.pointer.proofs.MetadataLaws.{length-held}
-use Rattle.pointer.proofs.NumberLaws.{Measured, measured-zero, read-ok, write-ok}
+use Rattle.pointer.proofs.NumberLaws.{measured-zero, read-ok, write-ok}
 use Rattle.pointer.proofs.Demands.{read-refused, read-accepted, write-refused, write-accepted}
 
 first-number : (j k : ℕ) → 0 < j → orElse j k ≡ j
@@ -56,7 +55,7 @@ module _ (n : ℕ) (cells m out : List ℕ) where
 
 module _ (n : ℕ) (wanted mask values cells m : List ℕ) where
   pub write-unmeasured : (k : ℕ) → k ≡ measured n (eqb (length wanted) 64 && eqb (length mask) 64 && eqb (length values) 64 && eqb (length cells) 64) (length m) → 0 < k
-      → Write n wanted mask values cells m (refusal k) cells m
+      → Write n wanted mask values cells m (record { number = k; active = 0; new = 0 }) cells m
   unfolding writeNumber writeJudged
   write-unmeasured k e h =
       write-refused n wanted mask values cells m k
@@ -85,7 +84,7 @@ module _ (n : ℕ) (wanted mask values cells m : List ℕ) where
     write-judges : writeJudged n wanted mask values (length cells) m ≡ k
     write-judges = write-ok n wanted mask values (length cells) m (s .least) (s .most) (s .wants) (s .masks) (s .holds) (s .stores) (s .notes) ∙ sym (d .judged)
 
-    pub write-judged : 0 < k → Write n wanted mask values cells m (refusal k) cells m
+    pub write-judged : 0 < k → Write n wanted mask values cells m (record { number = k; active = 0; new = 0 }) cells m
     unfolding writeNumber
     write-judged h = write-refused n wanted mask values cells m k (sym (rw write-judges (first-number k _ h))) (omega arith)
 
@@ -113,7 +112,7 @@ module _ (n : ℕ) (wanted mask values cells m : List ℕ) where
       unfolding writeNumber
       planned-number = p .judged ∙ ap (λ x. cond (ltb n x) 6 0) (ap length is-row ∙ length-row) ∙ sym (rw (write-judges, z))
 
-      pub write-full : 0 < j → Write n wanted mask values cells m (refusal j) cells m
+      pub write-full : 0 < j → Write n wanted mask values cells m (record { number = j; active = 0; new = 0 }) cells m
       write-full h = write-refused n wanted mask values cells m j planned-number (omega arith)
 
       pub planned-few : j ≡ 0 → a ≤ b

@@ -1,17 +1,14 @@
 -- No second answer: two that keep the promises of a call, with their buffers, are equal; and a value bit at a sound cell changes nothing. Assumes nothing.
-use mathlib.Core.Path.{_≡_, refl, sym, ap, ap₂, subst, _∙_}
+use mathlib.Core.Path.{_≡_, refl, sym, ap, _∙_}
 use mathlib.Core.Bool.{Bool, true, false, not, xor, cond, _&&_}
 use mathlib.Core.List.{List, _++_, map}
-use mathlib.Core.Logic.{_≢_}
-use Prim.Native.Nat.{ℕ, _+_, _<_}
-use native.Mathlib.Omega.{arith}
+use Prim.Native.Nat.{ℕ, _<_}
 use native.Mathlib.Decide.{ℕ-discrete}
-use lib.Dec.{eqb, ltb}
 use lib.ListN.{length}
-use Rattle.bits.specs.Bits.{num, sum, at, bytes}
+use Rattle.bits.specs.Bits.{num, at, bytes}
 use Rattle.bits.proofs.BoundLaws.{sum-ext}
 use Rattle.bits.proofs.ByteLaws.{bytes-ext}
-use Rattle.pointer.specs.Pointer.{held, names, unserved, positions, renewed, after, activeAfter, stored, encode, orElse, measured, verdict, needed, writeJudged, writeNumber}
+use Rattle.pointer.specs.Pointer.{held, names, unserved, renewed, after, activeAfter, stored, encode, needed, writeJudged, writeNumber}
 use Rattle.pointer.specs.Promises.{Read, Write}
 use Rattle.pointer.specs.declared.ReadAnswer.{ReadAnswer}
 use Rattle.pointer.specs.declared.WriteAnswer.{WriteAnswer}

@@ -1,7 +1,7 @@
 -- What a pointer row means: 512 cells, n correction entries and a full bit (document 000, as document 01 reads it). Entries are counted from 0, as bits
 -- and positions are, so document 01's entry 1 is entry 0 here. Every definition computes. Assumes nothing.
 use Prim.Native.Nat.{ℕ, zero, suc, _+_, _-_, _*_, _/_, _%_}
-use mathlib.Core.Bool.{Bool, true, false, not, xor, cond, _&&_, _||_}
+use mathlib.Core.Bool.{Bool, false, not, xor, cond, _&&_, _||_}
 use mathlib.Core.List.{List, [], _∷_, _++_, map}
 use lib.ListN.{length, getD}
 use lib.Dec.{eqb, ltb, leb}

@@ -3,20 +3,15 @@ use Prim.Native.Nat.{ℕ, zero, suc, _+_, _%_, _≤_}
 use mathlib.Core.Path.{_≡_}
 use mathlib.Core.Bool.{Bool, not, xor, cond, _&&_}
 use mathlib.Core.List.{List, _++_}
-use lib.ListN.{length, getD, take}
+use lib.ListN.{length, take}
 use lib.Dec.{eqb, ltb}
 use Rattle.bits.specs.Bits.{list, has, at}
-use Rattle.pointer.specs.declared.WriteAnswer.{WriteAnswer}
 use Rattle.pointer.specs.Pointer.{size, entry, active, names, repeats, positions, slot, verdict}
 
 -- the metadata's bits after nine others, as digits of ten bits: the full bit is the highest of the first, and each entry is one of the others
 unfoldable pub digit : ℕ → List ℕ → ℕ → ℕ
 digit n es zero = cond (eqb (length es) n) 512 0
 digit n es (suc e) = slot n es e
-
--- a refused write's answer
-abbrev pub refusal : ℕ → WriteAnswer
-refusal k = record { number = k; active = 0; new = 0 }
 
 -- n is in range, and every buffer of a write is as long as it should be
 pub record Sized (n : ℕ) (wanted mask values cells m : List ℕ) : Type 0 where

@@ -7,7 +7,7 @@ ghost use mathlib.Core.List.{map};
 ghost use Prim.Native.Nat.{ℕ, _+_, _/_, _%_, _≤_, _<_};
 ghost use lib.Dec.{eqb, ltb};
 ghost use lib.ListN.{length, getD, take};
-ghost use Rattle.bits.specs.Bits.{num, list, has, bytes};
+ghost use Rattle.bits.specs.Bits.{list, has, bytes};
 ghost use Rattle.pointer.specs.Pointer.{size, idle, renewed, encode};
 ghost use Rattle.pointer.specs.Steps.{digit};
 
@@ -66,9 +66,10 @@ fn cut(n: usize, ds: [usize; 12], m: &mut [u8])
 {
     let mut j = 0;
     while j < m.len() {
-        let d = (8 * j + 9) / 10;
+        let x = 8 * j + 9;
+        let d = x / 10;
         let v = ds[d] + 1024 * ds[d + 1];
-        m[j] = ((v >> ((8 * j + 9) % 10)) % 256) as u8;
+        m[j] = ((v >> (x % 10)) % 256) as u8;
         j += 1;
     }
 }

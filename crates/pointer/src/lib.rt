@@ -12,7 +12,7 @@ ghost use lib.Dec.{eqb};
 ghost use lib.ListN.{length};
 ghost use Rattle.pointer.specs.Pointer.{measured, size};
 ghost use Rattle.pointer.specs.Promises.{Read, Write};
-ghost use Rattle.pointer.specs.Steps.{refusal, Sized};
+ghost use Rattle.pointer.specs.Steps.{Sized};
 
 // What a read answers: 0, or the number of its refusal.
 pub struct ReadAnswer {
@@ -54,7 +54,11 @@ pub fn write(
         metadata.len(),
     );
     if 0 < k {
-        return refused(k);
+        return WriteAnswer {
+            number: k,
+            active: 0,
+            new: 0,
+        };
     }
     write_row(n, data, mask, values, cells, metadata)
 }
@@ -91,16 +95,6 @@ fn measured(n: usize, fixed: bool, metadata: usize) -> usize
     }
 }
 
-fn refused(k: usize) -> WriteAnswer
-    ensures { λ r. ⌜ r ≡ refusal k ⌝ }
-{
-    WriteAnswer {
-        number: k,
-        active: 0,
-        new: 0,
-    }
-}
-
 fn read_row(n: usize, cells: &[u8], metadata: &[u8], out: &mut [u8]) -> ReadAnswer
     requires { ⌜ (1 ≤ n) × (n ≤ 10) × (length (now cells) ≡ 64) × (length (now metadata) ≡ size n) × (length (now out) ≡ 64) ⌝ }
     ensures { λ r. ⌜ Read n (now (cells .entry)) (now (metadata .entry)) (now (out .entry)) r (now (out .exit)) ⌝ }
@@ -131,14 +125,22 @@ fn write_row(
     let row = decode::decoded(n, metadata);
     let bad = row.number;
     if 0 < bad {
-        return refused(bad);
+        return WriteAnswer {
+            number: bad,
+            active: 0,
+            new: 0,
+        };
     }
     let old = row.entries;
     let served = row.served;
     let plan = plan::planned(n, data, mask, values, served, old, row.active);
     let full = plan.number;
     if 0 < full {
-        return refused(full);
+        return WriteAnswer {
+            number: full,
+            active: 0,
+            new: 0,
+        };
     }
     let es = plan.entries;
     cells::store(data, mask, values, cells);

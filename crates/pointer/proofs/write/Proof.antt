@@ -22,10 +22,8 @@ write-spec =
     (λ c κs. search needs)
     -- measured-requires
     (λ c κs. search needs)
-    -- refused-requires
-    (λ c κs. search needs)
     -- returns
-    (λ c. rw (c .refused .ensures) (write-unmeasured _ _ _ _ _ _ _ (judged (c .before .before)) (omega arith)))
+    (λ c. write-unmeasured _ _ _ _ _ _ _ (judged (c .before)) (omega arith))
     -- write-row-requires
     (λ c κs. let z : c .before .before .before .measured .result ≡ 0 = omega arith in write-sized _ _ _ _ _ _ (sym (judged (c .before .before .before)) ∙ z))
     -- same-length

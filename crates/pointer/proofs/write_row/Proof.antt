@@ -1,5 +1,4 @@
 -- `write_row` decodes, plans, and then stores. Assumes nothing.
-use mathlib.Core.Path.{ap, sym, _∙_}
 use borrow.Author.Needs.{needs}
 use native.Mathlib.Omega.{arith}
 use Rattle.pointer.proofs.RowLaws.{write-judged, write-full, planned-few, write-planned}
@@ -12,22 +11,16 @@ write-row-spec =
     (tie.spec
     -- decoded-requires
     (λ c κs. search needs)
-    -- refused-requires
-    (λ c κs. search needs)
     -- same-length
     (λ c. search needs)
     -- returns
-    (λ c. rw (c .refused .ensures) (write-judged _ _ _ _ _ _ (c .before .before .before .before .before .before .before .before .before .pre) _ _ _ _ (c .before .before .decoded .ensures) (omega arith)))
+    (λ c. write-judged _ _ _ _ _ _ (c .before .before .before .before .before .before .before .before .pre) _ _ _ _ (c .before .decoded .ensures) (omega arith))
     -- planned-requires
-    (λ c κs. search needs)
-    -- refused-requires-2
     (λ c κs. search needs)
     -- same-length-2
     (λ c. search needs)
     -- returns-2
-    (λ c.
-    rw (c .refused2 .ensures)
-    (write-full _ _ _ _ _ _ (c .before .before .before .before .before .before .before .before .before .before .before .before .before .pre) _ _ _ _ (c .before .before .before .before .before .before .decoded .ensures) (omega arith) _ _ _ (c .before .before .planned .ensures) (omega arith)))
+    (λ c. write-full _ _ _ _ _ _ (c .before .before .before .before .before .before .before .before .before .before .before .before .pre) _ _ _ _ (c .before .before .before .before .before .decoded .ensures) (omega arith) _ _ _ (c .before .planned .ensures) (omega arith))
     -- store-requires
     (λ c κs. search needs)
     -- store-requires-2

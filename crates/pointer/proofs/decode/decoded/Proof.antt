@@ -1,6 +1,5 @@
 -- `decoded` finds what the metadata says. Assumes nothing.
 use borrow.Author.Needs.{needs}
-use native.Mathlib.Omega.{arith}
 use Rattle.pointer.proofs.DecodeLaws.{counted, decoded}
 use Rattle.pointer.proofs.decode.decoded.Statement.{statement}
 use Rattle.pointer.proofs.decode.decoded.Tie as tie

@@ -1,6 +1,5 @@
 -- `entry_at` cuts the entry out of three bytes. Assumes nothing.
 use borrow.Author.Needs.{needs}
-use native.Mathlib.Omega.{arith}
 use Rattle.pointer.proofs.DecodeLaws.{entry-cut}
 use Rattle.pointer.proofs.decode.entry_at.Statement.{statement}
 use Rattle.pointer.proofs.decode.entry_at.Tie as tie

@@ -24,9 +24,9 @@ cut-spec =
     Inv-loop μ-loop
     -- loop-holds
     (λ c. (omega arith, omega arith, unfold list words bytes in refl))
-    -- mul-d
+    -- mul-x
     (λ c. omega arith)
-    -- add-d
+    -- add-x
     (λ c. omega arith)
     -- mul-v
     (λ c. omega arith)
@@ -44,10 +44,6 @@ cut-spec =
     (λ c.
     let j = c .before .loop .j in
     omega (arith, c .before .before .pre .2 ((8 * j + 9) / 10) (omega arith), c .before .before .pre .2 ((8 * j + 9) / 10 + 1) (omega arith)))
-    -- mul-m
-    (λ c. omega arith)
-    -- add-m
-    (λ c. omega arith)
     -- shr-m
     (λ c. omega arith)
     -- cast-m

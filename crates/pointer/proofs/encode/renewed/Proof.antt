@@ -1,6 +1,5 @@
 -- `renewed` takes the bit out of its byte. Assumes nothing.
 use borrow.Author.Needs.{needs}
-use native.Mathlib.Omega.{arith}
 use Rattle.pointer.proofs.EncodeLaws.{renewed-cut}
 use Rattle.pointer.proofs.encode.renewed.Statement.{statement}
 use Rattle.pointer.proofs.encode.renewed.Tie as tie

@@ -1,7 +1,5 @@
 -- `with_bit` changes the one bit. Assumes nothing.
-use mathlib.Core.Path.{_∙_}
 use borrow.Author.Needs.{needs}
-use native.Mathlib.Omega.{arith}
 use Rattle.pointer.proofs.OctetLaws.{bit-set, bit-cleared}
 use Rattle.pointer.proofs.octets.with_bit.Statement.{statement}
 use Rattle.pointer.proofs.octets.with_bit.Tie as tie
