@@ -7,11 +7,11 @@ use native.Mathlib.Nat.{mod-lt, mod-one, mod-eq-of-lt, div-one, div-eq-of-lt, lt
 use native.Mathlib.Numerals.{one-add, add-one}
 use native.Mathlib.Omega.{arith}
 use native.Mathlib.Decide.{ℕ-discrete, decLe}
-use borrow.Author.Tests.{eqb-true}
+use borrow.Author.Tests.{eqb-true, lt-ltb, le-ltb}
 use lib.Arith.{lt-one, lt-of-le-ne}
 use lib.Bits.{bitAnd, bitOr, bitXor, differ, and-step, or-step, xor-step, and-shr, or-shr, xor-shr, or-shifted}
-use lib.Count.{ones, ones-step}
-use lib.Dec.{eqb, leb}
+use lib.Count.{ones, ones-step, under, trailingZeros}
+use lib.Dec.{eqb, leb, ltb}
 use lib.Pow.{pow-pos, pow-mono, pow-lt, field, mod-mod-pow, mod-pow-add, high, low, shl-exact, shr-shr, ones-split, ones-lt}
 use Rattle.bits.specs.Bits.{num, has, word, some, sum}
 use Rattle.bits.proofs.TestLaws.{clash, false-when, lt-or-le, leb-iff, iff-false, and-iff, num-lt, eqb-num, num-eqb, eqb-same}
@@ -203,9 +203,12 @@ has-one k j = go (ℕ-discrete k j) (decLe k j)
         sym (has-low k (2 ^ k) j (omega arith)) ∙ ap (λ y. has y j) (ap (λ y. y % 2 ^ k) (sym whole) ∙ low 1 k (pow-pos k)) ∙ has-zero j
         ∙ sym (false-when (eqb k j) (λ e. p (eqb-true k j e)))
 
--- `1 << k`
+-- `1 << k` in w bits
+pub one-shl-in : (w k : ℕ) → k < w → 1 * 2 ^ k % 2 ^ w ≡ 2 ^ k
+one-shl-in w k h = shl-exact {a = 1} 1 k w (pow-lt {i = 0} {j = 1} (omega arith)) (omega arith) ∙ omega arith
+
 pub one-shl : (k : ℕ) → k < 64 → 1 * 2 ^ k % 2 ^ 64 ≡ 2 ^ k
-one-shl k h = shl-exact {a = 1} 1 k 64 (pow-lt {i = 0} {j = 1} (omega arith)) (omega arith) ∙ omega arith
+one-shl k h = one-shl-in 64 k h
 
 -- one more bit at the top: `(t << n) | w`
 pub word-more : (n : ℕ) (f : ℕ → Bool) (t : Bool) → t ≡ f n → bitOr (num t * 2 ^ n) (word n f) ≡ word (n + 1) f
@@ -217,6 +220,14 @@ pub word-ones : (n : ℕ) → word n (λ _. true) ≡ 2 ^ n - 1
 unfolding word
 word-ones zero = refl
 word-ones (suc n) = rw (word-ones n, pow-suc) (omega (arith, pow-pos n))
+
+-- `(1 << a) - 1` has its a lowest bits set
+pub has-ones : (a j : ℕ) → has (2 ^ a - 1) j ≡ ltb j a
+has-ones a j =
+    ⊎-elim
+    (λ h. ap (λ x. has x j) (sym (word-ones a)) ∙ has-word a (λ _. true) j h ∙ sym (lt-ltb j a h))
+    (λ h. has-high a (2 ^ a - 1) j (ones-lt a) h ∙ sym (le-ltb j a h))
+    (lt-or-le j a)
 
 -- the n lowest bits of 64, as all 64 shifted down
 pub lowest-bits : (n : ℕ) → n ≤ 64 → 18446744073709551615 / 2 ^ (64 - n) ≡ word n (λ _. true)
@@ -251,3 +262,26 @@ bits-ones zero x = omega arith
 bits-ones (suc n) x =
     let e : sum n (λ j. num (has (x / 2) j)) ≡ sum n (λ j. num (has x (suc j))) = sum-ext n (λ j. num (has (x / 2) j)) (λ j. num (has x (suc j))) (λ j _. ap num (sym (has-half x j))) in
     omega (arith, bits-ones n (x / 2), has-first x, ones-step x, sum-front n (λ j. num (has x j)))
+
+-- ---- the lowest set bit, which the machine finds by counting the zeros below it
+
+pub lowest-set : (k x : ℕ) → x < 2 ^ k → x ≢ 0 → has x (trailingZeros k x) ≡ true
+unfolding trailingZeros
+lowest-set zero x l h = absurd (h (lt-one l))
+lowest-set (suc k) x l h =
+    let e : 2 ^ suc k ≡ 2 ^ k * 2 = pow-suc 2 k in
+    go (has x 0) refl (lowest-set k (x / 2) (omega arith))
+  where
+    go : (t : Bool) → has x 0 ≡ t → (x / 2 ≢ 0 → has (x / 2) (trailingZeros k (x / 2)) ≡ true) → has x (under (x % 2) (trailingZeros k (x / 2))) ≡ true
+    go true e r = let o : x % 2 ≡ 1 = has-first x ∙ ap num e in rw o e
+    go false e r = let o : x % 2 ≡ 0 = has-first x ∙ ap num e in rw (o, has-half x) (r (omega arith))
+
+pub below-lowest : (k x j : ℕ) → j < trailingZeros k x → has x j ≡ false
+unfolding trailingZeros
+below-lowest zero x j h = absurd (omega arith)
+below-lowest (suc k) x j h = go (has x 0) refl (below-lowest k (x / 2)) j h
+  where
+    go : (t : Bool) → has x 0 ≡ t → ((i : ℕ) → i < trailingZeros k (x / 2) → has (x / 2) i ≡ false) → (i : ℕ) → i < under (x % 2) (trailingZeros k (x / 2)) → has x i ≡ false
+    go true e r i l = let o : x % 2 ≡ 1 = has-first x ∙ ap num e in absurd (omega (arith, rw o at l))
+    go false e r zero l = e
+    go false e r (suc i) l = let o : x % 2 ≡ 0 = has-first x ∙ ap num e in has-half x i ∙ r i (omega (arith, rw o at l))

@@ -3,14 +3,16 @@ use mathlib.Core.Path.{_≡_, refl, sym, ap, ap₂, subst, _∙_}
 use mathlib.Core.Bool.{Bool, true, false, _||_}
 use mathlib.Core.List.{List, [], _∷_, _++_}
 use mathlib.Core.Logic.{_↔_, _≢_, _⊎_, inl, inr, ⊎-elim}
-use Prim.Native.Nat.{ℕ, zero, suc, _+_, _≤_, _<_}
+use Prim.Native.Nat.{ℕ, zero, suc, _+_, _≤_, _<_, min}
 use native.Mathlib.Numerals.{add-one}
 use native.Mathlib.Omega.{arith}
 use native.Mathlib.Decide.{ℕ-discrete}
+use borrow.Author.Tests.{lt-ltb, le-ltb}
+use lib.Dec.{ltb}
 use lib.ListN.{length, getD, take, set, length-append, List·getD-append}
-use lib.Seq.{getD-at, take-suc-set, take-length, ext-getD}
-use Rattle.bits.specs.Bits.{some, sum, list}
-use Rattle.bits.proofs.TestLaws.{clash, false-when, lt-or-le}
+use lib.Seq.{getD-at, getD-take, length-take-le, take-suc-set, take-length, ext-getD}
+use Rattle.bits.specs.Bits.{num, some, sum, list}
+use Rattle.bits.proofs.TestLaws.{clash, false-when, lt-or-le, num-lt}
 
 -- ---- some
 
@@ -84,6 +86,18 @@ sum-raise (suc n) f g a l e h = go (ℕ-discrete n a) (λ k. sum-raise n f g a k
         omega arith
     go (no p) r = omega (arith, h n p, r (omega arith))
 
+-- of n tests at most n pass
+pub sum-num-le : (n : ℕ) (f : ℕ → Bool) → sum n (λ k. num (f k)) ≤ n
+unfolding sum
+sum-num-le zero f = omega arith
+sum-num-le (suc n) f = omega (arith, num-lt (f n), sum-num-le n f)
+
+-- how many of the numbers below n are below a
+pub sum-below : (n a : ℕ) → sum n (λ k. num (ltb k a)) ≡ min n a
+unfolding sum
+sum-below zero a = omega arith
+sum-below (suc n) a = let e : sum n (λ k. num (ltb k a)) ≡ min n a = sum-below n a in ⊎-elim (λ h. rw (lt-ltb n a h) (omega arith)) (λ h. rw (le-ltb n a h) (omega arith)) (lt-or-le n a)
+
 -- ---- list
 
 pub length-list : {A : Type 0} (n : ℕ) (f : ℕ → A) → length (list n f) ≡ n
@@ -108,6 +122,11 @@ list-ext (suc n) f g e = ap₂ (λ l a. l ++ (a ∷ [])) (list-ext n f g (λ k l
 -- a list of n elements is the list of its elements
 pub list-getD : {A : Type 0} (n : ℕ) (f : ℕ → A) (d : A) (xs : List A) → length xs ≡ n → ((i : ℕ) → i < n → getD xs i d ≡ f i) → xs ≡ list n f
 list-getD n f d xs e h = ext-getD d xs (list n f) (e ∙ sym (length-list n f)) (λ i l. let k : i < n = omega arith in h i k ∙ sym (getD-list n f d i k))
+
+-- the first a of them
+pub take-list : {A : Type 0} (a n : ℕ) (f : ℕ → A) (d : A) → a ≤ n → take a (list n f) ≡ list a f
+take-list a n f d h =
+    list-getD a f d (take a (list n f)) (length-take-le a (list n f) (rw length-list h)) (λ i l. getD-take a (list n f) i d l ∙ getD-list n f d i (omega arith))
 
 -- a loop that fills a list from the front: one element more, and all of them
 pub list-more : {A : Type 0} (i : ℕ) (f : ℕ → A) (a : A) (xs : List A) → i < length xs → take i xs ≡ list i f → a ≡ f i → take (i + 1) (set xs i a) ≡ list (i + 1) f

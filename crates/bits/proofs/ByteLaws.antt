@@ -1,11 +1,11 @@
 -- Laws of lists of words and of bytes made of given bits. Assumes nothing.
 use mathlib.Core.Path.{_≡_, refl, sym, ap, _∙_}
 use mathlib.Core.Bool.{Bool, true, false}
-use mathlib.Core.List.{List}
+use mathlib.Core.List.{List, [], _∷_}
 use mathlib.Core.Logic.{⊎-elim}
 use Prim.Native.Nat.{ℕ, zero, suc, _+_, _*_, _/_, _%_, _^_, _≤_, _<_}
 use native.Mathlib.Omega.{arith}
-use lib.ListN.{length, getD, take, set, List·getD-eq-default}
+use lib.ListN.{length, getD, take, set, replicate, List·getD-eq-default}
 use lib.Pow.{pow-pos}
 use Rattle.bits.specs.Bits.{has, word, words, at, bytes, Below}
 use Rattle.bits.proofs.TestLaws.{lt-or-le}
@@ -19,6 +19,14 @@ past-end xs i h = List·getD-eq-default xs 0 h
 -- elements of a list of m are below b where those that it has are
 pub below-all : (m b : ℕ) (xs : List ℕ) → 0 < b → length xs ≡ m → ((i : ℕ) → i < m → getD xs i 0 < b) → Below b xs
 below-all m b xs p l h i = ⊎-elim (λ k. h i k) (λ k. rw (past-end xs i (omega arith)) p) (lt-or-le i m)
+
+-- an element is replaced
+pub below-set : (b : ℕ) (xs : List ℕ) (i v : ℕ) → Below b xs → v < b → Below b (set xs i v)
+below-set b [] i v h l k = h k
+below-set b (x ∷ xs) zero v h l zero = l
+below-set b (x ∷ xs) zero v h l (suc k) = h (suc k)
+below-set b (x ∷ xs) (suc i) v h l zero = h 0
+below-set b (x ∷ xs) (suc i) v h l (suc k) = below-set b xs i v (λ j. h (suc j)) l k
 
 -- ---- words
 
@@ -76,6 +84,16 @@ at-byte bs i k h =
 pub at-past : (bs : List ℕ) (p : ℕ) → 8 * length bs ≤ p → at bs p ≡ false
 unfolding at
 at-past bs p h = rw (past-end bs (p / 8) (omega arith)) (has-zero (p % 8))
+
+-- zeros have no bit set
+pub getD-zeros : (k i : ℕ) → getD {A = ℕ} (replicate k 0) i 0 ≡ 0
+getD-zeros zero i = refl
+getD-zeros (suc k) zero = refl
+getD-zeros (suc k) (suc i) = getD-zeros k i
+
+pub at-zeros : (k p : ℕ) → at (replicate k 0) p ≡ false
+unfolding at
+at-zeros k p = rw (getD-zeros k (p / 8)) (has-zero (p % 8))
 
 pub at-bytes : (m : ℕ) (f : ℕ → Bool) (p : ℕ) → p < 8 * m → at (bytes m f) p ≡ f p
 unfolding at bytes

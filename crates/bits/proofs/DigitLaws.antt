@@ -8,8 +8,10 @@ use lib.ListN.{length, getD, drop}
 use lib.Arith.{digits-lt, digits-div, digits-mod}
 use lib.Pow.{pow-pos, pow-add}
 use lib.Dec.{lit<}
-use Rattle.bits.specs.Bits.{has, at, number, digits, Below}
+use Rattle.bits.specs.Bits.{list, has, at, number, digits, Below}
+use Rattle.bits.proofs.BoundLaws.{length-list, getD-list}
 use Rattle.bits.proofs.BitLaws.{has-low, has-shr}
+use Rattle.bits.proofs.ByteLaws.{below-all}
 
 -- ---- there and back
 
@@ -82,7 +84,25 @@ pow-mul w (suc n) = rw (pow-suc, mul-suc, pow-add, pow-mul w n)
 pub digit-bit : (w x t k : ℕ) → k < w → has (x / (2 ^ w) ^ t % 2 ^ w) k ≡ has x (w * t + k)
 digit-bit w x t k h = has-low w (x / (2 ^ w) ^ t) k h ∙ rw pow-mul (has-shr x (w * t) k)
 
+-- bit k of digit t is bit w * t + k of the number that the digits make
+pub digits-bit : (w t k : ℕ) (ds : List ℕ) → Below (2 ^ w) ds → k < w → has (number (2 ^ w) ds) (w * t + k) ≡ has (getD ds t 0) k
+digits-bit w t k ds h l = sym (digit-bit w (number (2 ^ w) ds) t k l) ∙ ap (λ x. has x k) (digit-at (2 ^ w) t ds h)
+
+-- z bits cut from bit s on out of digits of w bits: bit k of them
+pub cut-bit : (w s z k : ℕ) (ds : List ℕ) → Below (2 ^ w) ds → 0 < w → k < z → has (number (2 ^ w) ds / 2 ^ s % 2 ^ z) k ≡ has (getD ds ((s + k) / w) 0) ((s + k) % w)
+cut-bit w s z k ds h p l =
+    has-low z (number (2 ^ w) ds / 2 ^ s) k l ∙ has-shr (number (2 ^ w) ds) s k ∙ ap (has (number (2 ^ w) ds)) (sym (div-add-mod (s + k) w))
+    ∙ digits-bit w ((s + k) / w) ((s + k) % w) ds h (mod-lt (s + k) p)
+
+-- the same out of c digits of a longer list, from digit q on
+pub window-bit : (w c q s z k : ℕ) (xs : List ℕ) → ((i : ℕ) → i < c → getD xs (q + i) 0 < 2 ^ w) → 0 < w → k < z → (s + k) / w < c
+    → has (number (2 ^ w) (list c (λ i. getD xs (q + i) 0)) / 2 ^ s % 2 ^ z) k ≡ has (getD xs (q + (s + k) / w) 0) ((s + k) % w)
+window-bit w c q s z k xs h p l t =
+    let f : ℕ → ℕ = λ i. getD xs (q + i) 0 in
+    cut-bit w s z k (list c f) (below-all c (2 ^ w) (list c f) (pow-pos w) (length-list c f) (λ i j. rw (getD-list c f 0 i j) (h i j))) p l
+    ∙ ap (λ x. has x ((s + k) % w)) (getD-list c f 0 ((s + k) / w) t)
+
 -- bit p of bytes is bit p of the number that they make
 pub byte-bit : (bs : List ℕ) (p : ℕ) → Below 256 bs → at bs p ≡ has (number 256 bs) p
 unfolding at
-byte-bit bs p h = rw (← digit-at 256 (p / 8) bs h) (digit-bit 8 (number 256 bs) (p / 8) (p % 8) (omega arith) ∙ ap (has (number 256 bs)) (div-add-mod p 8))
+byte-bit bs p h = sym (digits-bit 8 (p / 8) (p % 8) bs h (omega arith)) ∙ ap (has (number 256 bs)) (div-add-mod p 8)

@@ -1,0 +1,103 @@
+-- Laws of lists of entries: which positions they name, whether two name the same, and what a position shows. Assumes nothing.
+use mathlib.Core.Path.{_≡_, refl, sym, ap, ap₂, _∙_}
+use mathlib.Core.Bool.{Bool, true, false, cond, _||_}
+use mathlib.Core.List.{List, [], _∷_, _++_, map}
+use Prim.Native.Nat.{ℕ, zero, suc, _+_, _*_, _/_, _%_, _<_}
+use native.Mathlib.Omega.{arith}
+use borrow.Author.Tests.{eqb-true, eq-eqb}
+use lib.Dec.{eqb}
+use lib.ListN.{length, getD}
+use Rattle.bits.specs.Bits.{num, has, at}
+use Rattle.bits.proofs.TestLaws.{same-test, num-lt, eqb-num}
+use Rattle.pointer.specs.Pointer.{pointer, replacement, names, repeats, shown, renewed}
+
+or-assoc : (a b c : Bool) → a || (b || c) ≡ a || b || c
+or-assoc true b c = refl
+or-assoc false b c = refl
+
+eqb-sym : (a b : ℕ) → eqb a b ≡ eqb b a
+eqb-sym a b = same-test (eqb a b) (eqb b a) (λ h. eq-eqb b a (sym (eqb-true a b h))) (λ h. eq-eqb a b (sym (eqb-true b a h)))
+
+-- ---- one entry more, at the end
+
+pub names-append : (xs ys : List ℕ) (p : ℕ) → names (xs ++ ys) p ≡ names xs p || names ys p
+unfolding names
+names-append [] ys p = refl
+names-append (x ∷ xs) ys p = ap (λ t. eqb (pointer x) p || t) (names-append xs ys p) ∙ or-assoc (eqb (pointer x) p) (names xs p) (names ys p)
+
+pub names-snoc : (es : List ℕ) (e p : ℕ) → names (es ++ (e ∷ [])) p ≡ cond (eqb (pointer e) p) true (names es p)
+unfolding names
+names-snoc es e p = names-append es (e ∷ []) p ∙ swap (names es p) (eqb (pointer e) p)
+  where
+    swap : (a b : Bool) → a || (b || false) ≡ cond b true a
+    swap true true = refl
+    swap true false = refl
+    swap false true = refl
+    swap false false = refl
+
+pub repeats-snoc : (es : List ℕ) (e : ℕ) → repeats (es ++ (e ∷ [])) ≡ repeats es || names es (pointer e)
+unfolding repeats names
+repeats-snoc [] e = refl
+repeats-snoc (x ∷ xs) e =
+    ap₂ _||_ (names-snoc xs e (pointer x) ∙ ap (λ t. cond t true (names xs (pointer x))) (eqb-sym (pointer e) (pointer x))) (repeats-snoc xs e)
+    ∙ turn (eqb (pointer x) (pointer e)) (names xs (pointer x)) (repeats xs) (names xs (pointer e))
+  where
+    turn : (a b c d : Bool) → cond a true b || (c || d) ≡ b || c || (a || d)
+    turn true true c d = refl
+    turn true false true d = refl
+    turn true false false d = refl
+    turn false true c d = refl
+    turn false false c d = refl
+
+pub shown-snoc : (es : List ℕ) (e p : ℕ) (v : Bool) → shown (es ++ (e ∷ [])) p v ≡ cond (eqb (pointer e) p) (replacement e) (shown es p v)
+unfolding shown
+shown-snoc [] e p v = refl
+shown-snoc (x ∷ xs) e p v = shown-snoc xs e p (cond (eqb (pointer x) p) (replacement x) v)
+
+-- ---- entries with the wanted bits of their positions
+
+module _ (wanted : List ℕ) where
+  pub renewed-lt : (e : ℕ) → renewed wanted e < 1024
+  unfolding renewed
+  renewed-lt e = omega (arith, num-lt (at wanted (pointer e)))
+
+  pub renewed-pointer : (e : ℕ) → pointer (renewed wanted e) ≡ pointer e
+  unfolding renewed
+  renewed-pointer e = omega arith
+
+  pub renewed-replacement : (e : ℕ) → replacement (renewed wanted e) ≡ at wanted (pointer e)
+  unfolding renewed has
+  renewed-replacement e =
+      let l : num (at wanted (pointer e)) < 2 = num-lt (at wanted (pointer e)) in
+      let h : (e % 512 + 512 * num (at wanted (pointer e))) / 512 % 2 ≡ num (at wanted (pointer e)) = omega arith in
+      ap (λ x. eqb x 1) h ∙ eqb-num (at wanted (pointer e))
+
+  pub getD-renewed : (es : List ℕ) (i : ℕ) → i < length es → getD (map (renewed wanted) es) i 0 ≡ renewed wanted (getD es i 0)
+  getD-renewed [] i h = absurd (omega arith)
+  getD-renewed (e ∷ es) zero h = refl
+  getD-renewed (e ∷ es) (suc i) h = getD-renewed es i (omega arith)
+
+  pub names-renewed : (es : List ℕ) (p : ℕ) → names (map (renewed wanted) es) p ≡ names es p
+  unfolding names
+  names-renewed [] p = refl
+  names-renewed (e ∷ es) p = ap₂ (λ x t. eqb x p || t) (renewed-pointer e) (names-renewed es p)
+
+  pub repeats-renewed : (es : List ℕ) → repeats (map (renewed wanted) es) ≡ repeats es
+  unfolding repeats
+  repeats-renewed [] = refl
+  repeats-renewed (e ∷ es) = ap₂ _||_ (ap (names (map (renewed wanted) es)) (renewed-pointer e) ∙ names-renewed es (pointer e)) (repeats-renewed es)
+
+  -- a position that one of them names shows its wanted bit
+  pub shown-renewed : (es : List ℕ) (p : ℕ) (v : Bool) → shown (map (renewed wanted) es) p v ≡ cond (names es p) (at wanted p) v
+  unfolding shown names
+  shown-renewed [] p v = refl
+  shown-renewed (e ∷ es) p v =
+      ap (shown (map (renewed wanted) es) p) (ap₂ (λ x t. cond (eqb x p) t v) (renewed-pointer e) (renewed-replacement e))
+      ∙ shown-renewed es p (cond (eqb (pointer e) p) (at wanted (pointer e)) v)
+      ∙ go (eqb (pointer e) p) refl (names es p)
+    where
+      go : (t : Bool) → eqb (pointer e) p ≡ t → (s : Bool) → cond s (at wanted p) (cond t (at wanted (pointer e)) v) ≡ cond (t || s) (at wanted p) v
+      go true h true = refl
+      go true h false = ap (at wanted) (eqb-true (pointer e) p h)
+      go false h true = refl
+      go false h false = refl

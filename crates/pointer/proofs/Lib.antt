@@ -1,0 +1,16 @@
+pub mod EntryLaws
+pub mod PositionLaws
+pub mod MetadataLaws
+pub mod CodecLaws
+pub mod NumberLaws
+pub mod Inverse
+pub mod AfterLaws
+pub mod Demands
+pub mod Unique
+pub mod Examples
+pub mod OctetLaws
+pub mod CellLaws
+pub mod DecodeLaws
+pub mod PlanLaws
+pub mod EncodeLaws
+pub mod RowLaws

@@ -1,0 +1,30 @@
+-- `read_row` copies the cells and sets the bits of the active entries. Assumes nothing.
+use mathlib.Core.Path.{ap, _∙_}
+use lib.ListN.{take}
+use borrow.Author.Needs.{needs}
+use native.Mathlib.Omega.{arith}
+use Rattle.bits.specs.Bits.{at, bytes}
+use Rattle.pointer.specs.Pointer.{shown}
+use Rattle.pointer.proofs.RowLaws.{read-judged, read-shown}
+use Rattle.pointer.proofs.read_row.Statement.{statement}
+use Rattle.pointer.proofs.read_row.Tie as tie
+
+pub read-row-spec : {M : Type 1} → statement M
+read-row-spec =
+    tie.close
+    (tie.spec
+    -- decoded-requires
+    (λ c κs. search needs)
+    -- returns
+    (λ c. read-judged _ _ _ _ (c .before .before .before .before .before .pre) _ _ _ _ (c .before .decoded .ensures) (omega arith))
+    -- copy-requires
+    (λ c κs. search needs)
+    -- patch-requires
+    (λ c κs. search needs)
+    -- same-length
+    (λ c. search needs)
+    -- returns-2
+    (λ c.
+    let d = c .before .before .before .before .before .before .before .before .before .before .decoded in
+    read-shown _ _ _ _ (c .before .before .before .before .before .before .before .before .before .before .before .before .before .before .pre) _ _ _ _ (d .ensures) (omega arith) _
+    (c .before .before .patch .ensures ∙ ap (λ x. bytes 64 (λ p. shown (take (d .result .active) (d .result .entries)) p (at x p))) (c .before .before .before .before .before .before .copy .ensures))))

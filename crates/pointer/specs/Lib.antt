@@ -1,0 +1,3 @@
+pub mod Pointer
+pub mod Promises
+pub mod Steps

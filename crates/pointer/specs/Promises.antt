@@ -1,0 +1,46 @@
+-- What the two calls promise, for every argument. A name with a prime is a buffer at exit. Assumes nothing.
+use Prim.Native.Nat.{ℕ, _+_, _≤_, _<_}
+use mathlib.Core.Path.{_≡_}
+use mathlib.Core.Bool.{true, false}
+use mathlib.Core.List.{List}
+use mathlib.Core.Logic.{_↔_, _≢_}
+use lib.ListN.{length}
+use Rattle.bits.specs.Bits.{at, bytes}
+use Rattle.pointer.specs.Pointer.{pointer, replacement, entry, active, held, shown, unserved, after, activeAfter, stored, encode, readNumber, needed, writeJudged, writeNumber}
+use Rattle.pointer.specs.declared.ReadAnswer.{ReadAnswer}
+use Rattle.pointer.specs.declared.WriteAnswer.{WriteAnswer}
+
+pub record Read (n : ℕ) (cells metadata out : List ℕ) (answer : ReadAnswer) (out′ : List ℕ) : Type 0 where
+  -- the lowest number that applies, 0 where none does
+  pub number : answer .number ≡ readNumber n (length cells) metadata (length out)
+  -- a refusal alters nothing
+  pub refused : answer .number ≢ 0 → out′ ≡ out
+  -- else each position's bit is what it shows
+  pub filled : answer .number ≡ 0 → out′ ≡ bytes 64 (λ p. shown (held n metadata) p (at cells p))
+
+pub record Write (n : ℕ) (wanted mask values cells metadata : List ℕ) (answer : WriteAnswer) (cells′ metadata′ : List ℕ) : Type 0 where
+  -- the lowest number that applies, 0 where none does
+  pub number : answer .number ≡ writeNumber n wanted mask values (length cells) metadata
+  -- a refusal alters nothing and counts nothing
+  pub refused : answer .number ≢ 0 → (answer .active ≡ 0) × (answer .new ≡ 0) × (cells′ ≡ cells) × (metadata′ ≡ metadata)
+  -- else the cells, the metadata and the counts are exactly these
+  pub stores : answer .number ≡ 0 → cells′ ≡ bytes 64 (stored wanted mask values)
+  pub encodes : answer .number ≡ 0 → metadata′ ≡ encode n (after wanted mask values (held n metadata))
+  pub counts : answer .number ≡ 0 → (answer .active ≡ activeAfter n wanted mask values metadata) × (answer .new ≡ needed wanted mask values (held n metadata))
+  -- 6 exactly where the active entries and the unserved positions are more than n
+  pub full : writeJudged n wanted mask values (length cells) metadata ≡ 0 → (answer .number ≡ 6) ↔ (n < active n metadata + needed wanted mask values (held n metadata))
+  -- a sound cell takes its wanted bit, a stuck one holds its stuck value
+  pub sound : answer .number ≡ 0 → (p : ℕ) → p < 512 → at mask p ≡ false → at cells′ p ≡ at wanted p
+  pub stuck : answer .number ≡ 0 → (p : ℕ) → p < 512 → at mask p ≡ true → at cells′ p ≡ at values p
+  -- the active count is the one that the stored metadata says, and the new ones are the difference
+  pub noted : answer .number ≡ 0 → answer .active ≡ active n metadata′
+  pub adds : answer .number ≡ 0 → answer .active ≡ active n metadata + answer .new
+  -- an active entry keeps its place and pointer, and each entry has the wanted bit of its position
+  pub kept : answer .number ≡ 0 → (e : ℕ) → e < active n metadata → pointer (entry metadata′ e) ≡ pointer (entry metadata e)
+  pub renews : answer .number ≡ 0 → (e : ℕ) → e < answer .active → replacement (entry metadata′ e) ≡ at wanted (pointer (entry metadata′ e))
+  -- the new ones name unserved positions, in rising order
+  pub serves : answer .number ≡ 0 → (e : ℕ) → active n metadata ≤ e → e < answer .active
+      → unserved wanted mask values (held n metadata) (pointer (entry metadata′ e)) ≡ true
+  pub rises : answer .number ≡ 0 → (e f : ℕ) → active n metadata ≤ e → e < f → f < answer .active → pointer (entry metadata′ e) < pointer (entry metadata′ f)
+  -- a read of what was left, into any output of the right length, answers 0 and gives the wanted bits
+  pub reads : answer .number ≡ 0 → (out : List ℕ) → length out ≡ 64 → Read n cells′ metadata′ out (record { number = 0 }) wanted
