@@ -1,0 +1,63 @@
+-- What a call comes to by the definitions, as a line: numbers, then lists of bytes and words. Assumes nothing.
+use Prim.Native.Nat.{ℕ, zero, suc}
+use mathlib.Core.List.{List, [], _∷_}
+use lib.Dec.{eqb}
+use lib.ListN.{length, getD}
+use Rattle.bits.specs.Bits.{some, at, bytes}
+use Rattle.rdis.specs.Block.{Block, faults}
+use Rattle.rdis.specs.Levels.{plan}
+use Rattle.rdis.specs.Cells.{stored}
+use Rattle.rdis.specs.Packing.{width, inOrder, packed}
+use Rattle.gridcalls.specs.Calls.{writeNumber, used, rowsOf, columnsOf}
+use Rattle.pointer.specs.Pointer as pointer
+
+-- a line: the number and the counts, and the buffers afterwards
+pub record Line : Type 0 where
+  pub numbers : List ℕ
+  pub buffers : List (List ℕ)
+
+-- the 64 bytes of a row whose bits at these positions are 1
+abbrev pub ones : List ℕ → List ℕ
+ones ps = bytes 64 (λ p. some (length ps) (λ i. eqb p (getD ps i 0)))
+
+pub data Call : Type 0 where
+  -- the metadata of a row of n entries, of which these are active
+  metadata : ℕ → List ℕ → Call
+  -- a read and a write of a row of n entries
+  pointerRead : ℕ → (cells metadata out : List ℕ) → Call
+  pointerWrite : ℕ → (wanted mask values cells metadata : List ℕ) → Call
+  -- a write of a block with K levels
+  gridWrite : Block → ℕ → (cells counters : List ℕ) → Call
+
+-- a line by its number: one where it is 0, else the number with counts of 0 and the buffers as they were
+abbrev pub byNumber : ℕ → Line → Line → Line
+byNumber zero accepted refused = accepted
+byNumber (suc n) accepted refused = refused
+
+unfoldable pub line : Call → Line
+line (metadata n es) =
+    record {
+      numbers = pointer.verdict n (pointer.encode n es) ∷ pointer.active n (pointer.encode n es) ∷ [];
+      buffers = pointer.encode n es ∷ pointer.held n (pointer.encode n es) ∷ [];
+    }
+line (pointerRead n cells m out) =
+    byNumber (pointer.readNumber n (length cells) m (length out))
+    (record { numbers = 0 ∷ []; buffers = bytes 64 (λ p. pointer.shown (pointer.held n m) p (at cells p)) ∷ [] })
+    (record { numbers = pointer.readNumber n (length cells) m (length out) ∷ []; buffers = out ∷ [] })
+line (pointerWrite n wanted mask values cells m) =
+    byNumber (pointer.writeNumber n wanted mask values (length cells) m)
+    (record {
+      numbers = 0 ∷ pointer.activeAfter n wanted mask values m ∷ pointer.needed wanted mask values (pointer.held n m) ∷ [];
+      buffers = bytes 64 (pointer.stored wanted mask values) ∷ pointer.encode n (pointer.after wanted mask values (pointer.held n m)) ∷ [];
+    })
+    (record { numbers = pointer.writeNumber n wanted mask values (length cells) m ∷ 0 ∷ 0 ∷ []; buffers = cells ∷ m ∷ [] })
+line (gridWrite b k cells counters) =
+    byNumber (writeNumber b k (length cells) (length counters))
+    (record {
+      numbers = 0 ∷ used (plan b k) ∷ faults (b .rows) (b .mask) ∷ [];
+      buffers =
+          stored b (rowsOf (plan b k)) (columnsOf (plan b k))
+          ∷ packed (width k) (inOrder (b .rows) (b .columns) (rowsOf (plan b k)) (columnsOf (plan b k)))
+          ∷ inOrder (b .rows) (b .columns) (rowsOf (plan b k)) (columnsOf (plan b k)) ∷ [];
+    })
+    (record { numbers = writeNumber b k (length cells) (length counters) ∷ 0 ∷ 0 ∷ []; buffers = cells ∷ counters ∷ [] })
