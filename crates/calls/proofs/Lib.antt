@@ -1,0 +1,5 @@
+mod FormatLaws
+mod TextLaws
+mod CallLaws
+mod StreamLaws
+mod TurnLaws
