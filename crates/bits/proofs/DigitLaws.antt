@@ -94,13 +94,13 @@ cut-bit w s z k ds h p l =
     has-low z (number (2 ^ w) ds / 2 ^ s) k l ∙ has-shr (number (2 ^ w) ds) s k ∙ ap (has (number (2 ^ w) ds)) (sym (div-add-mod (s + k) w))
     ∙ digits-bit w ((s + k) / w) ((s + k) % w) ds h (mod-lt (s + k) p)
 
--- the same out of c digits of a longer list, from digit q on
-pub window-bit : (w c q s z k : ℕ) (xs : List ℕ) → ((i : ℕ) → i < c → getD xs (q + i) 0 < 2 ^ w) → 0 < w → k < z → (s + k) / w < c
-    → has (number (2 ^ w) (list c (λ i. getD xs (q + i) 0)) / 2 ^ s % 2 ^ z) k ≡ has (getD xs (q + (s + k) / w) 0) ((s + k) % w)
-window-bit w c q s z k xs h p l t =
-    let f : ℕ → ℕ = λ i. getD xs (q + i) 0 in
-    cut-bit w s z k (list c f) (below-all c (2 ^ w) (list c f) (pow-pos w) (length-list c f) (λ i j. rw (getD-list c f 0 i j) (h i j))) p l
-    ∙ ap (λ x. has x ((s + k) % w)) (getD-list c f 0 ((s + k) / w) t)
+-- the same out of c of the digits f, from digit q on
+pub window-bit : (w c q s z k : ℕ) (f : ℕ → ℕ) → ((i : ℕ) → i < c → f (q + i) < 2 ^ w) → 0 < w → k < z → (s + k) / w < c
+    → has (number (2 ^ w) (list c (λ i. f (q + i))) / 2 ^ s % 2 ^ z) k ≡ has (f (q + (s + k) / w)) ((s + k) % w)
+window-bit w c q s z k f h p l t =
+    let g : ℕ → ℕ = λ i. f (q + i) in
+    cut-bit w s z k (list c g) (below-all c (2 ^ w) (list c g) (pow-pos w) (length-list c g) (λ i j. rw (getD-list c g 0 i j) (h i j))) p l
+    ∙ ap (λ x. has x ((s + k) % w)) (getD-list c g 0 ((s + k) / w) t)
 
 -- bit p of bytes is bit p of the number that they make
 pub byte-bit : (bs : List ℕ) (p : ℕ) → Below 256 bs → at bs p ≡ has (number 256 bs) p

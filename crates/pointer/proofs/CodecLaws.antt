@@ -35,7 +35,7 @@ idle-spare : (n a e : ℕ) → n ≤ e → idle n a e ≡ 0
 unfolding idle
 idle-spare n a e l = rw (ne-eqb (e + 1) n (omega arith))
 
-slot-in : (n : ℕ) (es : List ℕ) (e : ℕ) → e < length es → slot n es e ≡ getD es e 0
+pub slot-in : (n : ℕ) (es : List ℕ) (e : ℕ) → e < length es → slot n es e ≡ getD es e 0
 unfolding slot
 slot-in n es e h = rw (lt-ltb e (length es) h)
 

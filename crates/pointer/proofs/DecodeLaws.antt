@@ -40,7 +40,7 @@ entry-cut m e x y z b hx hy hz =
     (λ k h.
     let i : q + (s + k) / 8 ≡ (1 + 10 * e + k) / 8 = omega arith in
     let j : (s + k) % 8 ≡ (1 + 10 * e + k) % 8 = omega arith in
-    ap (λ y. has (y / 2 ^ s % 1024) k) v ∙ window-bit 8 3 q s 10 k m (λ i _. b (q + i)) (omega arith) h (omega arith) ∙ ap₂ (λ i j. has (getD m i 0) j) i j ∙ sym (has-entry m e k h))
+    ap (λ y. has (y / 2 ^ s % 1024) k) v ∙ window-bit 8 3 q s 10 k (λ i. getD m i 0) (λ i _. b (q + i)) (omega arith) h (omega arith) ∙ ap₂ (λ i j. has (getD m i 0) j) i j ∙ sym (has-entry m e k h))
 
 -- an entry that is not active, by the code's test
 pub idle-yes : (n a e : ℕ) → a ≤ 10 → e + 1 ≡ n → 1 * 2 ^ a % 2 ^ 64 - 1 ≡ idle n a e

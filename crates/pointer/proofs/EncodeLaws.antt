@@ -2,25 +2,22 @@
 use mathlib.Core.Path.{_≡_, refl, sym, ap, ap₂, _∙_}
 use mathlib.Core.Bool.{Bool, true, false, cond}
 use mathlib.Core.List.{List, map}
-use mathlib.Core.Logic.{⊎-elim}
-use Prim.Native.Nat.{ℕ, zero, suc, _+_, _*_, _/_, _%_, _^_, _≤_, _<_}
+use mathlib.Core.Logic.{_≢_}
+use Prim.Native.Nat.{ℕ, zero, suc, _+_, _-_, _*_, _/_, _%_, _^_, _≤_, _<_}
 use native.Mathlib.Nat.{mod-lt}
 use native.Mathlib.Omega.{arith}
-use native.Mathlib.Numerals.{add-one}
-use borrow.Author.Tests.{lt-ltb, le-ltb}
-use lib.Dec.{eqb, ltb}
+use lib.Dec.{eqb}
 use lib.ListN.{length, getD, take, set, length-map}
 use lib.Seq.{length-take-le, getD-take}
 use Rattle.bits.specs.Bits.{num, list, has, at, bytes, number, Below}
-use Rattle.bits.proofs.TestLaws.{lt-or-le, num-eqb}
-use Rattle.bits.proofs.BoundLaws.{getD-list}
+use Rattle.bits.proofs.TestLaws.{num-eqb}
 use Rattle.bits.proofs.BitLaws.{is-word}
-use Rattle.bits.proofs.ByteLaws.{below-all, bytes-ext, bytes-more}
+use Rattle.bits.proofs.ByteLaws.{below-all, bytes-more, bytes-done}
 use Rattle.bits.proofs.DigitLaws.{window-bit}
 use Rattle.pointer.specs.Pointer.{size, idle, renewed, slot, metadataBit, encode}
 use Rattle.pointer.specs.Steps.{digit}
 use Rattle.pointer.proofs.EntryLaws.{renewed-lt, getD-renewed}
-use Rattle.pointer.proofs.CodecLaws.{slot-lt}
+use Rattle.pointer.proofs.CodecLaws.{slot-in, slot-idle, slot-lt}
 
 -- ---- entries
 
@@ -28,6 +25,15 @@ use Rattle.pointer.proofs.CodecLaws.{slot-lt}
 pub renewed-cut : (wanted : List ℕ) (e x : ℕ) → x ≡ getD wanted (e % 512 / 8) 0 → e % 512 + 512 * (x / 2 ^ (e % 512 % 8) % 2) ≡ renewed wanted e
 unfolding renewed at has
 renewed-cut wanted e x h = ap (λ y. e % 512 + 512 * y) (sym (num-eqb (x / 2 ^ (e % 512 % 8) % 2) (omega arith)) ∙ ap (λ y. num (eqb (y / 2 ^ (e % 512 % 8) % 2) 1)) h)
+
+digit-lt : (n : ℕ) (es : List ℕ) (i : ℕ) → Below 1024 es → digit n es i < 1024
+unfolding digit
+digit-lt n es zero b = go (eqb (length es) n)
+  where
+    go : (t : Bool) → cond t 512 0 < 1024
+    go true = omega arith
+    go false = omega arith
+digit-lt n es (suc i) b = slot-lt n es i b
 
 module _ (wanted es : List ℕ) (a : ℕ) (l : a ≤ length es) where
   row : List ℕ
@@ -45,26 +51,26 @@ module _ (wanted es : List ℕ) (a : ℕ) (l : a ≤ length es) where
   unfolding row
   row-below = below-all a 1024 row (omega arith) length-row (λ e h. rw (getD-row e h) (renewed-lt wanted (getD es e 0)))
 
-  pub first-digit : (n : ℕ) → cond (eqb a n) 512 0 ≡ digit n (map (renewed wanted) (take a es)) 0
+  pub digit-full : (n d : ℕ) → d ≡ 0 → cond (eqb a n) 512 0 ≡ digit n (map (renewed wanted) (take a es)) d
   unfolding row digit
-  first-digit n = ap (λ x. cond (eqb x n) 512 0) (sym length-row)
+  digit-full n d z = ap (λ x. cond (eqb x n) 512 0) (sym length-row) ∙ ap (digit n row) (sym z)
 
-  pub next-digit : (n e v x : ℕ) → x ≡ renewed wanted (getD es e 0) → v ≡ cond (ltb e a) x (idle n a e) → v ≡ digit n (map (renewed wanted) (take a es)) (e + 1)
-  unfolding row digit slot
-  next-digit n e v x r h =
-      h ∙ ap (λ y. cond (ltb e a) y (idle n a e)) r ∙ sym (ap (digit n row) (add-one e) ∙ ap (λ x. cond (ltb e x) (getD row e 0) (idle n x e)) length-row
-      ∙ ⊎-elim (λ k. rw (lt-ltb e a k) (getD-row e k)) (λ k. rw (le-ltb e a k)) (lt-or-le e a))
+  place : (n d : ℕ) → d ≢ 0 → digit n row d ≡ slot n row (d - 1)
+  unfolding digit
+  place n d z = let e : d ≡ suc (d - 1) = omega arith in ap (digit n row) e
+
+  pub digit-active : (n d : ℕ) → d ≢ 0 → d - 1 < a → renewed wanted (getD es (d - 1) 0) ≡ digit n (map (renewed wanted) (take a es)) d
+  unfolding row
+  digit-active n d z h = sym (place n d z ∙ slot-in n row (d - 1) (omega (arith, length-row)) ∙ getD-row (d - 1) h)
+
+  pub digit-idle : (n d : ℕ) → d ≢ 0 → a ≤ d - 1 → idle n a (d - 1) ≡ digit n (map (renewed wanted) (take a es)) d
+  unfolding row
+  digit-idle n d z h = sym (place n d z ∙ slot-idle n row (d - 1) (omega (arith, length-row)) ∙ ap (λ x. idle n x (d - 1)) length-row)
+
+  pub digit-small : (n d v : ℕ) → v ≡ digit n (map (renewed wanted) (take a es)) d → (v ≡ digit n (map (renewed wanted) (take a es)) d) × (v < 1024)
+  digit-small n d v e = (e, rw e (digit-lt n (map (renewed wanted) (take a es)) d row-below))
 
 -- ---- bytes
-
-digit-lt : (n : ℕ) (es : List ℕ) (i : ℕ) → Below 1024 es → digit n es i < 1024
-unfolding digit
-digit-lt n es zero b = go (eqb (length es) n)
-  where
-    go : (t : Bool) → cond t 512 0 < 1024
-    go true = omega arith
-    go false = omega arith
-digit-lt n es (suc i) b = slot-lt n es i b
 
 metadata-digit : (n : ℕ) (es : List ℕ) (p : ℕ) → metadataBit n es p ≡ has (digit n es ((p + 9) / 10)) ((p + 9) % 10)
 unfolding metadataBit digit has
@@ -78,36 +84,24 @@ metadata-digit n es (suc p) =
     let r : (suc p + 9) % 10 ≡ p % 10 = omega arith in
     rw (d, r)
 
-module _ (n : ℕ) (es ds : List ℕ) (laid : take (n + 2) ds ≡ list (n + 2) (digit n es)) where
-  laid-at : (i : ℕ) → i < n + 2 → getD ds i 0 ≡ digit n es i
-  laid-at i h = sym (getD-take (n + 2) ds i 0 h) ∙ ap (λ l. getD l i 0) laid ∙ getD-list (n + 2) (digit n es) 0 i h
-
-  pub laid-lt : Below 1024 es → (i : ℕ) → i < n + 2 → getD ds i 0 < 1024
-  laid-lt b i h = rw (laid-at i h) (digit-lt n es i b)
-
-  pub encoded : bytes (size n) (λ p. has (getD ds ((p + 9) / 10) 0) ((p + 9) % 10)) ≡ encode n es
-  unfolding encode
-  encoded =
-      bytes-ext (size n) (λ p. has (getD ds ((p + 9) / 10) 0) ((p + 9) % 10)) (metadataBit n es)
-      (λ p h. ap (λ x. has x ((p + 9) % 10)) (laid-at ((p + 9) / 10) (omega arith)) ∙ sym (metadata-digit n es p))
-
--- one byte of metadata more
-pub store-more : (ds m : List ℕ) (j : ℕ) → j < length m → getD ds ((8 * j + 9) / 10) 0 < 1024 → getD ds ((8 * j + 9) / 10 + 1) 0 < 1024
-    → take j m ≡ bytes j (λ p. has (getD ds ((p + 9) / 10) 0) ((p + 9) % 10))
-    → take (j + 1) (set m j ((getD ds ((8 * j + 9) / 10) 0 + 1024 * getD ds ((8 * j + 9) / 10 + 1) 0) / 2 ^ ((8 * j + 9) % 10) % 256))
-    ≡ bytes (j + 1) (λ p. has (getD ds ((p + 9) / 10) 0) ((p + 9) % 10))
+-- one byte of metadata more, from the two digits in which it lies
+pub store-more : (n : ℕ) (es m : List ℕ) (j x y : ℕ) → j < length m → (x ≡ digit n es ((8 * j + 9) / 10)) × (x < 1024) → (y ≡ digit n es ((8 * j + 9) / 10 + 1)) × (y < 1024)
+    → take j m ≡ bytes j (metadataBit n es) → take (j + 1) (set m j ((x + 1024 * y) / 2 ^ ((8 * j + 9) % 10) % 256)) ≡ bytes (j + 1) (metadataBit n es)
 unfolding list number
-store-more ds m j l lx ly h =
+store-more n es m j x y l (hx, lx) (hy, ly) h =
     let d : ℕ = (8 * j + 9) / 10 in
     let s : ℕ = (8 * j + 9) % 10 in
-    let x : ℕ = getD ds d 0 in
-    let y : ℕ = getD ds (d + 1) 0 in
-    let o : getD ds (d + 0) 0 ≡ x = ap (λ i. getD ds i 0) (omega arith) in
-    let v : x + 1024 * y ≡ number 1024 (list 2 (λ i. getD ds (d + i) 0)) = omega arith in
-    let two : (i : ℕ) → i < 2 → getD ds (d + i) 0 < 1024 = elim [ zero ↦ λ _. omega arith | suc i ↦ λ k. let e : d + suc i ≡ d + 1 = omega arith in rw e ly ] in
-    bytes-more j (λ p. has (getD ds ((p + 9) / 10) 0) ((p + 9) % 10)) ((x + 1024 * y) / 2 ^ s % 256) m l h
-    (is-word 8 ((x + 1024 * y) / 2 ^ s % 256) (λ k. has (getD ds ((8 * j + k + 9) / 10) 0) ((8 * j + k + 9) % 10)) (mod-lt ((x + 1024 * y) / 2 ^ s) (omega arith))
+    let o : digit n es (d + 0) ≡ digit n es d = ap (digit n es) (omega arith) in
+    let v : x + 1024 * y ≡ number 1024 (list 2 (λ i. digit n es (d + i))) = omega arith in
+    let two : (i : ℕ) → i < 2 → digit n es (d + i) < 1024 = elim [ zero ↦ λ _. omega arith | suc i ↦ λ k. let e : d + suc i ≡ d + 1 = omega arith in rw e (omega arith) ] in
+    bytes-more j (metadataBit n es) ((x + 1024 * y) / 2 ^ s % 256) m l h
+    (is-word 8 ((x + 1024 * y) / 2 ^ s % 256) (λ k. metadataBit n es (8 * j + k)) (mod-lt ((x + 1024 * y) / 2 ^ s) (omega arith))
     (λ k q.
     let a : d + (s + k) / 10 ≡ (8 * j + k + 9) / 10 = omega arith in
     let b : (s + k) % 10 ≡ (8 * j + k + 9) % 10 = omega arith in
-    ap (λ z. has (z / 2 ^ s % 256) k) v ∙ window-bit 10 2 d s 8 k ds two (omega arith) q (omega arith) ∙ ap₂ (λ i r. has (getD ds i 0) r) a b))
+    ap (λ z. has (z / 2 ^ s % 256) k) v ∙ window-bit 10 2 d s 8 k (digit n es) two (omega arith) q (omega arith) ∙ ap₂ (λ i r. has (digit n es i) r) a b
+    ∙ sym (metadata-digit n es (8 * j + k))))
+
+pub store-done : (n : ℕ) (es m : List ℕ) (j : ℕ) → length m ≡ size n → j ≡ size n → take j m ≡ bytes j (metadataBit n es) → m ≡ encode n es
+unfolding encode
+store-done n es m j l e h = bytes-done j (size n) (metadataBit n es) m l e h

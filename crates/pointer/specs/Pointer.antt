@@ -1,5 +1,6 @@
 -- What a pointer row means: 512 cells, n correction entries and a full bit (document 000, as document 01 reads it). Entries are counted from 0, as bits
--- and positions are, so document 01's entry 1 is entry 0 here. Every definition computes. Assumes nothing.
+-- and positions are, so document 01's entry 1 is entry 0 here. What a write is to store, its data, is called `wanted`. Every definition computes.
+-- Assumes nothing.
 use Prim.Native.Nat.{ℕ, zero, suc, _+_, _-_, _*_, _/_, _%_}
 use mathlib.Core.Bool.{Bool, false, not, xor, cond, _&&_, _||_}
 use mathlib.Core.List.{List, [], _∷_, _++_, map}
@@ -50,7 +51,7 @@ idle n a e = cond (eqb (e + 1) n) (unary a) 0
 unfoldable pub formed : ℕ → List ℕ → Bool
 formed n m = not (some n (λ e. leb (active n m) e && not (eqb (entry m e) (idle n (active n m) e))))
 
--- the active entries
+-- the active entries, in their order
 unfoldable pub held : ℕ → List ℕ → List ℕ
 held n m = list (active n m) (entry m)
 
@@ -86,7 +87,8 @@ positions (suc n) f = positions n f ++ cond (f n) (n ∷ []) []
 unfoldable pub renewed : List ℕ → ℕ → ℕ
 renewed wanted e = entryOf (pointer e) (at wanted (pointer e))
 
--- the entries afterwards: the active ones in their places, then one for each unserved position, all with the wanted bits
+-- the entries afterwards: the active ones in their places, then one for each unserved position, all with the wanted bits (a position is the entry that
+-- names it with the bit 0)
 unfoldable pub after : List ℕ → List ℕ → List ℕ → List ℕ → List ℕ
 after wanted mask values es = map (renewed wanted) (es ++ positions 512 (unserved wanted mask values es))
 

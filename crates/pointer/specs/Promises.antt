@@ -1,4 +1,5 @@
--- What the two calls promise, for every argument. A name with a prime is a buffer at exit. Assumes nothing.
+-- What the two calls promise, for every argument. What a write is to store, its data, is called `wanted`; a name with a prime is a buffer at exit.
+-- proofs/Unique.antt shows that no second answer keeps them. Assumes nothing.
 use Prim.Native.Nat.{ℕ, _+_, _≤_, _<_}
 use mathlib.Core.Path.{_≡_}
 use mathlib.Core.Bool.{true, false}

@@ -1,4 +1,4 @@
--- What the private functions hand to each other. Assumes nothing.
+-- What the private functions promise each other. No public contract cites these. Assumes nothing.
 use Prim.Native.Nat.{ℕ, zero, suc, _+_, _%_, _≤_}
 use mathlib.Core.Path.{_≡_}
 use mathlib.Core.Bool.{Bool, not, xor, cond, _&&_}
@@ -40,7 +40,7 @@ pub record Decoded (n : ℕ) (m : List ℕ) (number a : ℕ) (entries served : L
 abbrev pub unservedAt : List ℕ → List ℕ → List ℕ → List ℕ → ℕ → Bool
 unservedAt wanted mask values served p = at mask p && xor (at wanted p) (at values p) && not (at served p)
 
--- the same k positions after q, in q's byte: s is the byte of served positions
+-- the same of the position k after q, false past q's byte, where s is the byte of served positions
 abbrev pub unservedFrom : List ℕ → List ℕ → List ℕ → ℕ → ℕ → ℕ → Bool
 unservedFrom wanted mask values s q k = ltb (q % 8 + k) 8 && (at mask (q + k) && xor (at wanted (q + k)) (at values (q + k)) && not (has s (q % 8 + k)))
 

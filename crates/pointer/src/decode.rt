@@ -35,7 +35,7 @@ pub fn decoded(n: usize, m: &[u8]) -> Row
 }
 
 // An entry has ten bits, which lie in three bytes at most.
-pub fn entry_at(m: &[u8], e: usize) -> usize
+fn entry_at(m: &[u8], e: usize) -> usize
     requires { ⌜ e ≤ 10 ⌝ }
     ensures { λ r. ⌜ r ≡ entry (now (m .entry)) e ⌝ }
 {

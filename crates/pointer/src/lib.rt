@@ -30,7 +30,8 @@ pub struct WriteAnswer {
 pub fn read(n: usize, cells: &[u8], metadata: &[u8], out: &mut [u8]) -> ReadAnswer
     ensures { λ r. ⌜ Read n (now (cells .entry)) (now (metadata .entry)) (now (out .entry)) r (now (out .exit)) ⌝ }
 {
-    let k = measured(n, both(cells.len() == 64, out.len() == 64), metadata.len());
+    // Of the four buffers of 64 bytes a read is lent two.
+    let k = measured(n, fixed(64, 64, cells.len(), out.len()), metadata.len());
     if 0 < k {
         return ReadAnswer { number: k };
     }
@@ -63,19 +64,20 @@ pub fn write(
     write_row(n, data, mask, values, cells, metadata)
 }
 
-fn both(a: bool, b: bool) -> bool
-    ensures { λ r. ⌜ r ≡ a && b ⌝ }
-{
-    if a { b } else { false }
-}
-
+// The buffers of 64 bytes are that long.
 fn fixed(data: usize, mask: usize, values: usize, cells: usize) -> bool
     ensures { λ r. ⌜ r ≡ (eqb «data» 64 && eqb mask 64 && eqb values 64 && eqb cells 64) ⌝ }
 {
-    both(
-        both(both(data == 64, mask == 64), values == 64),
-        cells == 64,
-    )
+    if data != 64 {
+        return false;
+    }
+    if mask != 64 {
+        return false;
+    }
+    if values != 64 {
+        return false;
+    }
+    cells == 64
 }
 
 // The number of entries is judged before the metadata's length is computed from it.
@@ -88,7 +90,10 @@ fn measured(n: usize, fixed: bool, metadata: usize) -> usize
     if 10 < n {
         return 1;
     }
-    if both(fixed, metadata == (1 + 10 * n + 7) / 8) {
+    if !fixed {
+        return 2;
+    }
+    if metadata == (1 + 10 * n + 7) / 8 {
         0
     } else {
         2

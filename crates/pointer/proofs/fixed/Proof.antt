@@ -1,7 +1,5 @@
 -- `fixed` tests the four lengths. Assumes nothing.
-use mathlib.Core.Bool.{_&&_}
-use mathlib.Core.Path.{ap, _∙_}
-use lib.Dec.{eqb}
+use borrow.Author.Tests.{eq-eqb, ne-eqb}
 use Rattle.pointer.proofs.fixed.Statement.{statement}
 use Rattle.pointer.proofs.fixed.Tie as tie
 
@@ -9,13 +7,11 @@ pub fixed-spec : {M : Type 1} → statement M
 fixed-spec =
     tie.close
     (tie.spec
-    -- both-requires
-    (λ c κs. tt)
-    -- both-requires-2
-    (λ c κs. tt)
-    -- both-requires-3
-    (λ c κs. tt)
     -- returns
-    (λ c.
-    let g = c .before .before .before .args in
-    c .both3 .ensures ∙ ap (λ t. t && eqb (g .cells) 64) (c .before .both2 .ensures ∙ ap (λ t. t && eqb (g .values) 64) (c .before .before .both .ensures))))
+    (λ c. rw (ne-eqb _ _ (c .if1 .taken)))
+    -- returns-2
+    (λ c. rw (eq-eqb _ _ (c .before .if1 .left), ne-eqb _ _ (c .if2 .taken)))
+    -- returns-3
+    (λ c. rw (eq-eqb _ _ (c .before .before .if1 .left), eq-eqb _ _ (c .before .if2 .left), ne-eqb _ _ (c .if3 .taken)))
+    -- returns-4
+    (λ c. rw (eq-eqb _ _ (c .before .before .if1 .left), eq-eqb _ _ (c .before .if2 .left), eq-eqb _ _ (c .if3 .left))))

@@ -12,13 +12,13 @@ use Rattle.pointer.proofs.read.Tie as tie
 
 judged : (c : tie.After-measured) → let g = c .before .before .before .before .before .args in
     c .measured .result ≡ measured (g .n) (eqb (length (g .cells .now)) 64 && eqb (length (g .out .now)) 64) (length (g .metadata .now))
-judged c = let g = c .before .before .before .before .before .args in c .measured .ensures ∙ ap (λ t. measured (g .n) t (length (g .metadata .now))) (c .before .both .ensures)
+judged c = let g = c .before .before .before .before .before .args in c .measured .ensures ∙ ap (λ t. measured (g .n) t (length (g .metadata .now))) (c .before .fixed .ensures)
 
 pub read-spec : {M : Type 1} → statement M
 read-spec =
     tie.close
     (tie.spec
-    -- both-requires
+    -- fixed-requires
     (λ c κs. search needs)
     -- measured-requires
     (λ c κs. search needs)
