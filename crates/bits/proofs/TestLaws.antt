@@ -76,6 +76,13 @@ xor-back true false = refl
 xor-back false true = refl
 xor-back false false = refl
 
+pub xor-iff : (a b : Bool) → (xor a b ≡ true) ↔ (b ≡ not a)
+unfolding xor
+xor-iff true true = (λ h. sym h, λ h. sym h)
+xor-iff true false = (λ h. refl, λ h. refl)
+xor-iff false true = (λ h. refl, λ h. refl)
+xor-iff false false = (λ h. h, λ h. h)
+
 -- ---- a test as a number
 
 pub num-lt : (a : Bool) → num a < 2

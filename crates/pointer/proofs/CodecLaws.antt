@@ -15,25 +15,9 @@ use Rattle.bits.proofs.BoundLaws.{some-none, sum-ext, sum-below, list-getD}
 use Rattle.bits.proofs.BitLaws.{has-zero, has-ext}
 use Rattle.bits.proofs.ByteLaws.{at-bytes, length-bytes, is-bytes}
 use Rattle.pointer.specs.Pointer.{size, entry, spare, active, unary, idle, formed, held, repeats, slot, metadataBit, encode, verdict}
-use Rattle.pointer.proofs.MetadataLaws.{has-entry, entry-lt, has-unary, unary-lt, active-full, active-unary, active-part, length-held, getD-held, formed-idle, spare-entry}
+use Rattle.pointer.proofs.MetadataLaws.{has-entry, entry-lt, has-unary, idle-lt, idle-last, idle-other, active-full, active-unary, active-part, length-held, getD-held, formed-idle, spare-entry}
 
 -- what stands in an entry's place
-
-idle-lt : (n a e : ℕ) → idle n a e < 1024
-unfolding idle
-idle-lt n a e = go (eqb (e + 1) n)
-  where
-    go : (t : Bool) → cond t (unary a) 0 < 1024
-    go true = unary-lt a
-    go false = omega arith
-
-idle-last : (n a : ℕ) → 1 ≤ n → idle n a (n - 1) ≡ unary a
-unfolding idle
-idle-last n a l = rw (eq-eqb (n - 1 + 1) n (omega arith))
-
-idle-spare : (n a e : ℕ) → n ≤ e → idle n a e ≡ 0
-unfolding idle
-idle-spare n a e l = rw (ne-eqb (e + 1) n (omega arith))
 
 slot-in : (n : ℕ) (es : List ℕ) (e : ℕ) → e < length es → slot n es e ≡ getD es e 0
 unfolding slot
@@ -107,7 +91,7 @@ module _ (n : ℕ) (es : List ℕ) (s : Fits n es) where
       past : (p : ℕ) → p < 8 * size n → 1 + 10 * n ≤ p → leb (1 + 10 * n) p && at (encode n es) p ≡ false
       past p h l =
           let e : p ≡ 1 + 10 * n + (p - (1 + 10 * n)) = omega arith in
-          let z : slot n es n ≡ 0 = slot-idle n es n (s .few) ∙ idle-spare n (length es) n (omega arith) in
+          let z : slot n es n ≡ 0 = slot-idle n es n (s .few) ∙ idle-other n (length es) n (λ q. omega arith) in
           rw (le-leb (1 + 10 * n) p l)
           (at-encode p h ∙ ap (metadataBit n es) e ∙ metadata-bit n es n (p - (1 + 10 * n)) (omega arith)
           ∙ ap (λ x. has x (p - (1 + 10 * n))) z ∙ has-zero (p - (1 + 10 * n)))
@@ -144,7 +128,7 @@ module _ (n : ℕ) (m : List ℕ) (least : 1 ≤ n) (long : length m ≡ size n)
       last : e ≡ n → entry m e ≡ idle n (active n m) e
       last q =
           ap (entry m) q ∙ eqb-true (entry m n) 0 (not-false (eqb (entry m n) 0) (sym (spare-entry n m long) ∙ clean))
-          ∙ sym (idle-spare n (active n m) e (omega arith))
+          ∙ sym (idle-other n (active n m) e (λ z. omega arith))
 
   bit-held : (p : ℕ) → p < 8 * size n → at m p ≡ metadataBit n (held n m) p
   unfolding metadataBit

@@ -2,10 +2,10 @@
 use mathlib.Core.Path.{_≡_, refl, sym, ap, _∙_}
 use mathlib.Core.Bool.{Bool, true, false, not, cond, _&&_}
 use mathlib.Core.List.{List}
-use mathlib.Core.Logic.{⊎-elim}
+use mathlib.Core.Logic.{_≢_, ⊎-elim}
 use Prim.Native.Nat.{ℕ, _+_, _-_, _*_, _^_, _≤_, _<_}
 use native.Mathlib.Omega.{arith}
-use borrow.Author.Tests.{leb-true, le-leb, ne-eqb, eqb-true, eqb-false, not-true}
+use borrow.Author.Tests.{leb-true, le-leb, eq-eqb, ne-eqb, eqb-true, eqb-false, not-true}
 use lib.Dec.{eqb, ltb, leb}
 use lib.ListN.{length, getD}
 use lib.Pow.{pow-mono, pow-pos}
@@ -30,7 +30,7 @@ pub has-unary : (a k : ℕ) → k < 10 → has (unary a) k ≡ ltb k a
 unfolding unary
 has-unary a k h = has-word 10 (λ k. ltb k a) k h
 
-pub unary-lt : (a : ℕ) → unary a < 1024
+unary-lt : (a : ℕ) → unary a < 1024
 unfolding unary
 unary-lt a = word-lt 10 (λ k. ltb k a)
 
@@ -38,6 +38,24 @@ unary-lt a = word-lt 10 (λ k. ltb k a)
 pub unary-ones : (a : ℕ) → a ≤ 10 → 2 ^ a - 1 ≡ unary a
 unfolding unary
 unary-ones a h = is-word 10 (2 ^ a - 1) (λ k. ltb k a) (omega (arith, pow-mono h, pow-pos a)) (λ j _. has-ones a j)
+
+-- ---- what an entry that is not active holds, where a are
+
+pub idle-lt : (n a e : ℕ) → idle n a e < 1024
+unfolding idle
+idle-lt n a e = go (eqb (e + 1) n)
+  where
+    go : (t : Bool) → cond t (unary a) 0 < 1024
+    go true = unary-lt a
+    go false = omega arith
+
+pub idle-last : (n a : ℕ) → 1 ≤ n → idle n a (n - 1) ≡ unary a
+unfolding idle
+idle-last n a l = rw (eq-eqb (n - 1 + 1) n (omega arith))
+
+pub idle-other : (n a e : ℕ) → e + 1 ≢ n → idle n a e ≡ 0
+unfolding idle
+idle-other n a e h = rw (ne-eqb (e + 1) n h)
 
 -- ---- the active entries
 
