@@ -1,7 +1,7 @@
 -- The tests of a number test what the refusals say, and the number is the lowest refusal that applies. Assumes nothing.
-use Prim.Native.Nat.{ℕ, zero, suc, _+_, _*_, _^_, _<_, _≤_}
-use mathlib.Core.Path.{_≡_, refl, ap, subst, _∙_}
-use mathlib.Core.Bool.{Bool, true, false, cond}
+use Prim.Native.Nat.{ℕ, _+_, _*_, _^_, _<_, _≤_}
+use mathlib.Core.Path.{_≡_, refl, ap, _∙_}
+use mathlib.Core.Bool.{true, false}
 use mathlib.Core.List.{List}
 use mathlib.Core.Logic.{_↔_, _⊎_, inl, inr, Iff·trans, ⊎-elim}
 use native.Mathlib.Omega.{arith}
@@ -11,7 +11,7 @@ use lib.ListN.{length, getD}
 use lib.Pow.{pow-pos}
 use Rattle.bits.specs.Bits.{has, Below}
 use Rattle.bits.specs.Lowest.{Lowest}
-use Rattle.bits.proofs.TestLaws.{clash, false-when, lt-or-le, leb-iff, ltb-iff, eqb-iff, iff-false, not-iff, and-iff, or-iff}
+use Rattle.bits.proofs.TestLaws.{clash, false-when, lt-or-le, leb-iff, ltb-iff, eqb-iff, not-iff, and-iff, or-iff}
 use Rattle.bits.proofs.LowestLaws.{From, test-first, from-none, from-first}
 use Rattle.bits.proofs.BoundLaws.{none-below, some-none, some-iff}
 use Rattle.bits.proofs.BitLaws.{has-zero, high-bit}

@@ -1,22 +1,22 @@
 -- The definitions of well-formed metadata, of its active entries and of what they name say what the refusals' facts say. Assumes nothing.
-use mathlib.Core.Path.{_≡_, refl, sym, ap, subst, _∙_}
-use mathlib.Core.Bool.{Bool, true, false, not, cond, _&&_, _||_}
-use mathlib.Core.List.{List, [], _∷_}
-use mathlib.Core.Logic.{_↔_, _⊎_, inl, inr, Iff·trans, ⊎-elim}
-use Prim.Native.Nat.{ℕ, zero, suc, _+_, _-_, _*_, _%_, _≤_, _<_}
+use mathlib.Core.Path.{_≡_, sym, ap, subst, _∙_}
+use mathlib.Core.Bool.{true, false, not, _&&_}
+use mathlib.Core.List.{List}
+use mathlib.Core.Logic.{_↔_, inl, inr, Iff·trans, ⊎-elim}
+use Prim.Native.Nat.{ℕ, _+_, _-_, _*_, _≤_, _<_}
 use native.Mathlib.Omega.{arith}
 use native.Mathlib.Decide.{ℕ-discrete}
-use borrow.Author.Tests.{le-leb, lt-leb, lt-ltb, le-ltb, eq-eqb, ne-eqb}
+use borrow.Author.Tests.{le-leb, lt-leb, lt-ltb, le-ltb}
 use lib.Dec.{eqb, ltb, leb}
-use lib.ListN.{length, getD}
-use Rattle.bits.specs.Bits.{num, some, sum, has, at}
-use Rattle.bits.proofs.TestLaws.{clash, true-or-false, lt-or-le, eqb-same, leb-iff, eqb-iff, and-iff, or-iff}
+use lib.ListN.{length}
+use Rattle.bits.specs.Bits.{num, has, at}
+use Rattle.bits.proofs.TestLaws.{clash, true-or-false, lt-or-le, eqb-same, leb-iff, and-iff}
 use Rattle.bits.proofs.BoundLaws.{some-none, some-iff, sum-ext, sum-below}
-use Rattle.bits.proofs.BitLaws.{has-zero, has-low, has-ext}
+use Rattle.bits.proofs.BitLaws.{has-zero, has-ext}
 use Rattle.bits.proofs.ByteLaws.{at-past}
-use Rattle.pointer.specs.Pointer.{pointer, size, entry, spare, active, unary, idle, formed, held, names, repeats}
-use Rattle.pointer.specs.Refusals.{InRange, Spare, Partly, Active, WellFormed, Names, NamedTwice}
-use Rattle.pointer.proofs.MetadataLaws.{has-entry, entry-lt, has-unary, idle-lt, idle-last, idle-other, active-full, active-unary, active-part, length-held, getD-held, formed-idle}
+use Rattle.pointer.specs.Pointer.{size, entry, spare, active, idle, formed}
+use Rattle.pointer.specs.Refusals.{InRange, Spare, Partly, Active, WellFormed}
+use Rattle.pointer.proofs.MetadataLaws.{has-entry, entry-lt, has-unary, idle-lt, idle-last, idle-other, active-full, active-unary, active-part, formed-idle}
 
 -- ---- spare bits
 

@@ -1,11 +1,11 @@
 -- The number of a call is the lowest refusal that applies. Assumes nothing.
-use mathlib.Core.Path.{_≡_, refl, sym, subst, _∙_}
+use mathlib.Core.Path.{_≡_, refl, sym, subst}
 use mathlib.Core.Bool.{Bool, true, false, not, cond, _&&_}
 use mathlib.Core.List.{List}
 use mathlib.Core.Logic.{_↔_, Iff·trans}
-use Prim.Native.Nat.{ℕ, zero, suc, _+_, _*_, _≤_, _<_}
+use Prim.Native.Nat.{ℕ, zero, suc, _+_, _≤_, _<_}
 use native.Mathlib.Omega.{arith}
-use lib.Dec.{eqb, ltb, leb}
+use lib.Dec.{eqb}
 use lib.ListN.{length}
 use Rattle.bits.specs.Lowest.{Lowest}
 use Rattle.bits.proofs.TestLaws.{clash, leb-iff, ltb-iff, eqb-iff, iff-stable, not-iff, and-iff}
@@ -117,8 +117,7 @@ module _ (n : ℕ) (wanted mask values : List ℕ) (cells : ℕ) (m : List ℕ) 
   write-lowest =
       subst (Lowest (WriteRefused n wanted mask values cells m)) (sym (or-else-assoc (measured n _ (length m)) (verdict n m) _))
       (refused-lowest (WriteLengths n (length wanted) (length mask) (length values) cells (length m)) n m (NoneLeft n wanted mask values m) _ _ _
-      (and-iff _ (and-iff _ (and-iff _ (eqb-iff _ _) _ (eqb-iff _ _)) _ (eqb-iff _ _)) _ (eqb-iff _ _))
-      (
+      (and-iff _ (and-iff _ (and-iff _ (eqb-iff _ _) _ (eqb-iff _ _)) _ (eqb-iff _ _)) _ (eqb-iff _ _)) (
         λ ((((w, k), v), c), z). record { dataBytes = w; maskBytes = k; valueBytes = v; cellBytes = c; metadataBytes = z },
         λ r. ((((r .dataBytes, r .maskBytes), r .valueBytes), r .cellBytes), r .metadataBytes),
       )

@@ -1,14 +1,13 @@
 -- What the active entries name, which positions are unserved and how many: the definitions say what the refusals' facts say. Assumes nothing.
 use mathlib.Core.Path.{_≡_, refl, sym, ap, _∙_}
-use mathlib.Core.Bool.{Bool, true, not, xor, _&&_, _||_}
+use mathlib.Core.Bool.{Bool, true}
 use mathlib.Core.List.{List, [], _∷_}
 use mathlib.Core.Logic.{_↔_, _⊎_, inl, inr, Iff·trans, ⊎-elim}
 use Prim.Native.Nat.{ℕ, zero, suc, _+_, _*_, _<_}
 use native.Mathlib.Omega.{arith}
-use lib.Dec.{ltb}
 use lib.ListN.{length, getD}
 use Rattle.bits.specs.Bits.{num, sum, has, at}
-use Rattle.bits.proofs.TestLaws.{clash, ltb-iff, eqb-iff, not-iff, and-iff, or-iff, xor-iff}
+use Rattle.bits.proofs.TestLaws.{clash, eqb-iff, not-iff, and-iff, or-iff, xor-iff}
 use Rattle.bits.proofs.BoundLaws.{sum-rising}
 use Rattle.bits.proofs.BitLaws.{has-low, has-ext}
 use Rattle.pointer.specs.Pointer.{pointer, entry, active, held, names, repeats, unserved, positions, needed}
