@@ -23,9 +23,9 @@ use Rattle.pointer.proofs.MetadataLaws.{has-entry, entry-lt, has-unary,
 pub spare-iff : (n : ℕ) (m : List ℕ) → length m ≡ size n → (spare n m ≡ true) ↔ Spare n m
 unfolding spare
 spare-iff n m l =
-    Iff·trans (some-iff (8 * size n) _ _ (λ p. and-iff _ (leb-iff _ p) _ (λ h. h, λ h. h))) (
-      λ (p, k, (g, h)). (p, g, h),
-      λ (p, g, h). (p, ⊎-elim (λ k. k) (λ k. clash h (at-past m p (omega arith))) (lt-or-le p (8 * size n)), (g, h)),
+    Iff·trans (some-iff _ _ _ (λ p. and-iff _ (leb-iff _ p) _ (λ h. h, λ h. h))) (
+      λ (p, k, (g, h)). (p, omega arith, h),
+      λ (p, g, h). (p, ⊎-elim (λ k. k) (λ k. clash h (at-past m p (omega arith))) (lt-or-le p (8 * size n)), (omega arith, h)),
     )
 
 -- ---- how many entries are active
@@ -41,7 +41,7 @@ module _ (n : ℕ) (m : List ℕ) (range : InRange n) where
       bit : (k : ℕ) → k < 10 → has (entry m (n - 1)) k ≡ ltb k a
       bit k h =
           has-entry m (n - 1) k h
-          ∙ ⊎-elim (λ l. s .ones k l ∙ sym (lt-ltb k a l)) (λ l. s .zeros k l h ∙ sym (le-ltb k a l)) (lt-or-le k a)
+          ∙ ⊎-elim (λ l. s .ones (n - 1) k (omega arith) l ∙ sym (lt-ltb k a l)) (λ l. s .zeros (n - 1) k (omega arith) l h ∙ sym (le-ltb k a l)) (lt-or-le k a)
 
   -- metadata that says how many is well formed
   formed-when : (a : ℕ) → Active n m a → formed n m ≡ true
@@ -53,10 +53,8 @@ module _ (n : ℕ) (m : List ℕ) (range : InRange n) where
         where
           bit : Dec (e + 1 ≡ n) → (k : ℕ) → k < 10 → at m (1 + 10 * e + k) ≡ has (idle n a e) k
           bit (yes z) k q =
-              let y : e ≡ n - 1 = omega arith in
-              subst (λ x. at m (1 + 10 * x + k) ≡ has (idle n a x) k) (sym y)
-              (⊎-elim (λ g. r .ones k g ∙ sym (lt-ltb k a g)) (λ g. r .zeros k g q ∙ sym (le-ltb k a g)) (lt-or-le k a)
-              ∙ sym (ap (λ x. has x k) (idle-last n a (range .0)) ∙ has-unary a k q))
+              ⊎-elim (λ g. r .ones e k z g ∙ sym (lt-ltb k a g)) (λ g. r .zeros e k z g q ∙ sym (le-ltb k a g)) (lt-or-le k a)
+              ∙ sym (ap (λ x. has x k) (idle-last n a e z) ∙ has-unary a k q)
           bit (no z) k q = r .between e k l (omega arith) q ∙ sym (ap (λ x. has x k) (idle-other n a e z) ∙ has-zero k)
 
       right : Active n m a → (e : ℕ) → e < n → leb a e && not (eqb (entry m e) (idle n a e)) ≡ false
@@ -70,8 +68,8 @@ module _ (n : ℕ) (m : List ℕ) (range : InRange n) where
       bit : (e k : ℕ) → active n m ≤ e → e < n → k < 10 → at m (1 + 10 * e + k) ≡ has (idle n (active n m) e) k
       bit e k l h q = sym (has-entry m e k q) ∙ ap (λ x. has x k) (formed-idle n m f e l h)
 
-      last : (k : ℕ) → active n m < n → k < 10 → at m (1 + 10 * (n - 1) + k) ≡ ltb k (active n m)
-      last k l q = bit (n - 1) k (omega arith) (omega arith) q ∙ ap (λ x. has x k) (idle-last n (active n m) (range .0)) ∙ has-unary (active n m) k q
+      last : (e k : ℕ) → e + 1 ≡ n → active n m < n → k < 10 → at m (1 + 10 * e + k) ≡ ltb k (active n m)
+      last e k z l q = bit e k (omega arith) (omega arith) q ∙ ap (λ x. has x k) (idle-last n (active n m) e z) ∙ has-unary (active n m) k q
 
       partly : at m 0 ≡ false → Partly n m (active n m)
       partly h =
@@ -79,8 +77,8 @@ module _ (n : ℕ) (m : List ℕ) (range : InRange n) where
           record {
             notFull = h;
             fewer = few;
-            ones = λ k l. last k few (omega arith) ∙ lt-ltb k (active n m) l;
-            zeros = λ k l q. last k few q ∙ le-ltb k (active n m) l;
+            ones = λ e k z l. last e k z few (omega arith) ∙ lt-ltb k (active n m) l;
+            zeros = λ e k z l q. last e k z few q ∙ le-ltb k (active n m) l;
             between = λ e k l g q. bit e k l (omega arith) q ∙ ap (λ x. has x k) (idle-other n (active n m) e (λ z. omega arith)) ∙ has-zero k;
           }
 

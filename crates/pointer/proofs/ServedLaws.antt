@@ -1,47 +1,21 @@
 -- What the active entries name, which positions are unserved and how many: the definitions say what the refusals' facts say. Assumes nothing.
 use mathlib.Core.Path.{_≡_, refl, sym, ap, _∙_}
 use mathlib.Core.Bool.{Bool, true}
-use mathlib.Core.List.{List, [], _∷_}
-use mathlib.Core.Logic.{_↔_, _⊎_, inl, inr, Iff·trans, ⊎-elim}
-use Prim.Native.Nat.{ℕ, zero, suc, _+_, _*_, _<_}
+use mathlib.Core.List.{List}
+use mathlib.Core.Logic.{_↔_, Iff·trans}
+use Prim.Native.Nat.{ℕ, _+_, _*_, _<_}
 use native.Mathlib.Omega.{arith}
 use lib.ListN.{length, getD}
 use Rattle.bits.specs.Bits.{num, sum, has, at}
-use Rattle.bits.proofs.TestLaws.{clash, eqb-iff, not-iff, and-iff, or-iff, xor-iff}
+use Rattle.bits.proofs.TestLaws.{not-iff, and-iff, xor-iff}
 use Rattle.bits.proofs.BoundLaws.{sum-rising}
 use Rattle.bits.proofs.BitLaws.{has-low, has-ext}
 use Rattle.pointer.specs.Pointer.{pointer, entry, active, held, names, repeats, unserved, positions, needed}
 use Rattle.pointer.specs.Refusals.{InRange, WellFormed, Names, NamedTwice, Unserved, NoneLeft}
+use Rattle.pointer.proofs.EntryLaws.{Twice, names-iff, repeats-iff}
 use Rattle.pointer.proofs.MetadataLaws.{has-entry, length-held, getD-held}
 use Rattle.pointer.proofs.PositionLaws.{length-positions, rising}
 use Rattle.pointer.proofs.FormedLaws.{active-is, active-said}
-
--- ---- lists of entries
-
-names-iff : (es : List ℕ) (p : ℕ) → (names es p ≡ true) ↔ ((i : ℕ) × (i < length es) × (pointer (getD es i 0) ≡ p))
-unfolding names
-names-iff [] p = (λ h. clash h refl, λ (i, l, h). absurd (omega arith))
-names-iff (e ∷ es) p = Iff·trans (or-iff _ (eqb-iff (pointer e) p) _ (names-iff es p)) (⊎-elim (λ h. (0, omega arith, h)) (λ (i, l, h). (suc i, omega arith, h)), back)
-  where
-    back : (i : ℕ) × (i < length (e ∷ es)) × (pointer (getD (e ∷ es) i 0) ≡ p) → (pointer e ≡ p) ⊎ ((i : ℕ) × (i < length es) × (pointer (getD es i 0) ≡ p))
-    back (zero, l, h) = inl h
-    back (suc i, l, h) = inr (i, omega arith, h)
-
--- two different places of the list hold one pointer
-abbrev Twice : List ℕ → Type 0
-Twice es = (i : ℕ) × (j : ℕ) × (i < j) × (j < length es) × (pointer (getD es j 0) ≡ pointer (getD es i 0))
-
-repeats-iff : (es : List ℕ) → (repeats es ≡ true) ↔ Twice es
-unfolding repeats
-repeats-iff [] = (λ h. clash h refl, λ (i, j, d, l, h). absurd (omega arith))
-repeats-iff (e ∷ es) =
-    Iff·trans (or-iff _ (names-iff es (pointer e)) _ (repeats-iff es))
-    (⊎-elim (λ (j, l, h). (0, suc j, omega arith, omega arith, h)) (λ (i, j, d, l, h). (suc i, suc j, omega arith, omega arith, h)), back)
-  where
-    back : Twice (e ∷ es) → ((j : ℕ) × (j < length es) × (pointer (getD es j 0) ≡ pointer e)) ⊎ Twice es
-    back (i, zero, d, l, h) = absurd (omega arith)
-    back (zero, suc j, d, l, h) = inl (j, omega arith, h)
-    back (suc i, suc j, d, l, h) = inr (i, j, omega arith, omega arith, h)
 
 -- ---- the pointer of an entry, bit by bit
 

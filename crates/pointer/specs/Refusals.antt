@@ -1,6 +1,6 @@
 -- When each numbered refusal applies, said of the arguments bit by bit and not by the tests that a number is computed from. Entries are counted
 -- from 0, so bit k of entry e is bit 1 + 10 e + k of the metadata. Assumes nothing.
-use Prim.Native.Nat.{ℕ, suc, _+_, _-_, _*_, _<_, _≤_}
+use Prim.Native.Nat.{ℕ, _+_, _*_, _<_, _≤_}
 use mathlib.Core.Path.{_≡_}
 use mathlib.Core.Bool.{true, false, not}
 use mathlib.Core.List.{List}
@@ -38,13 +38,14 @@ pub record WriteLengths (n wanted mask values cells metadata : ℕ) : Type 0 whe
 abbrev pub Spare : ℕ → List ℕ → Type 0
 Spare n m = (p : ℕ) × (1 + 10 * n ≤ p) × (at m p ≡ true)
 
--- the full bit is 0, and the last entry says in unary that a entries are active: a ones, then zeros; each entry between those and the last is 0
+-- the full bit is 0, and the last entry, the one before place n, says in unary that a entries are active: a ones, then zeros; each entry between those and
+-- the last is 0
 pub record Partly (n : ℕ) (m : List ℕ) (a : ℕ) : Type 0 where
   pub notFull : at m 0 ≡ false
   pub fewer : a < n
-  pub ones : (k : ℕ) → k < a → at m (1 + 10 * (n - 1) + k) ≡ true
-  pub zeros : (k : ℕ) → a ≤ k → k < 10 → at m (1 + 10 * (n - 1) + k) ≡ false
-  pub between : (e k : ℕ) → a ≤ e → suc e < n → k < 10 → at m (1 + 10 * e + k) ≡ false
+  pub ones : (e k : ℕ) → e + 1 ≡ n → k < a → at m (1 + 10 * e + k) ≡ true
+  pub zeros : (e k : ℕ) → e + 1 ≡ n → a ≤ k → k < 10 → at m (1 + 10 * e + k) ≡ false
+  pub between : (e k : ℕ) → a ≤ e → e + 1 < n → k < 10 → at m (1 + 10 * e + k) ≡ false
 
 -- a entries are active: all n where the full bit is 1, else as many as the last entry says
 abbrev pub Active : ℕ → List ℕ → ℕ → Type 0
