@@ -2,7 +2,7 @@
 use mathlib.Core.Path.{_≡_, refl, sym, ap, ap₂, subst, _∙_}
 use mathlib.Core.Bool.{Bool, true, false, _||_}
 use mathlib.Core.List.{List, [], _∷_, _++_}
-use mathlib.Core.Logic.{_↔_, _≢_, _⊎_, inl, inr, ⊎-elim}
+use mathlib.Core.Logic.{_↔_, _≢_, ⊎-elim}
 use Prim.Native.Nat.{ℕ, zero, suc, _+_, _≤_, _<_, min}
 use native.Mathlib.Numerals.{add-one}
 use native.Mathlib.Omega.{arith}
@@ -91,6 +91,28 @@ pub sum-num-le : (n : ℕ) (f : ℕ → Bool) → sum n (λ k. num (f k)) ≤ n
 unfolding sum
 sum-num-le zero f = omega arith
 sum-num-le (suc n) f = omega (arith, num-lt (f n), sum-num-le n f)
+
+-- u rising numbers below n that pass are at most as many as pass
+pub sum-rising : (n u : ℕ) (f : ℕ → Bool) (p : ℕ → ℕ) → ((i : ℕ) → i < u → (p i < n) × (f (p i) ≡ true)) → ((i j : ℕ) → i < j → j < u → p i < p j)
+    → u ≤ sum n (λ k. num (f k))
+unfolding sum
+sum-rising zero zero f p h r = omega arith
+sum-rising zero (suc u) f p h r = absurd (omega (arith, h 0 (omega arith) .0))
+sum-rising (suc n) zero f p h r = omega arith
+sum-rising (suc n) (suc u) f p h r = go (ℕ-discrete (p u) n) (λ v. sum-rising n v f p)
+  where
+    before : (i : ℕ) → i < u → p i < n
+    before i l = omega (arith, r i u l (omega arith), h u (omega arith) .0)
+
+    all : p u < n → (i : ℕ) → i < suc u → p i < n
+    all k i l = ⊎-elim (before i) (λ g. let q : i ≡ u = omega arith in subst (λ x. p x < n) (sym q) k) (lt-or-le i u)
+
+    go : Dec (p u ≡ n) → ((v : ℕ) → ((i : ℕ) → i < v → (p i < n) × (f (p i) ≡ true)) → ((i j : ℕ) → i < j → j < v → p i < p j) → v ≤ sum n (λ k. num (f k)))
+        → suc u ≤ num (f n) + sum n (λ k. num (f k))
+    go (yes e) s =
+        let t : num (f n) ≡ 1 = ap num (ap f (sym e) ∙ h u (omega arith) .1) in
+        omega (arith, s u (λ i l. (before i l, h i (omega arith) .1)) (λ i j d l. r i j d (omega arith)))
+    go (no e) s = omega (arith, s (suc u) (λ i l. (all (omega (arith, h u (omega arith) .0)) i l, h i l .1)) r)
 
 -- how many of the numbers below n are below a
 pub sum-below : (n a : ℕ) → sum n (λ k. num (ltb k a)) ≡ min n a

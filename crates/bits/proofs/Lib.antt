@@ -1,4 +1,5 @@
 pub mod TestLaws
+pub mod LowestLaws
 pub mod BoundLaws
 pub mod BitLaws
 pub mod ByteLaws

@@ -1,5 +1,5 @@
 -- Laws of tests: what true and false exclude, and the Boolean operations. Assumes nothing.
-use mathlib.Core.Path.{_≡_, refl, sym, ap, _∙_}
+use mathlib.Core.Path.{_≡_, refl, sym}
 use mathlib.Core.Bool.{Bool, true, false, not, xor, _&&_, _||_, or-true}
 use mathlib.Core.Logic.{_↔_, _⊎_, inl, inr, ⊎-elim}
 use Prim.Native.Nat.{ℕ, zero, suc, _<_, _≤_}
@@ -75,6 +75,13 @@ xor-back true true = refl
 xor-back true false = refl
 xor-back false true = refl
 xor-back false false = refl
+
+pub xor-iff : (a b : Bool) → (xor a b ≡ true) ↔ (b ≡ not a)
+unfolding xor
+xor-iff true true = (λ h. sym h, λ h. sym h)
+xor-iff true false = (λ h. refl, λ h. refl)
+xor-iff false true = (λ h. refl, λ h. refl)
+xor-iff false false = (λ h. h, λ h. h)
 
 -- ---- a test as a number
 

@@ -7,7 +7,9 @@ use mathlib.Core.Logic.{_↔_, inl, inr}
 use native.Mathlib.Omega.{arith}
 use lib.ListN.{length}
 use Rattle.bits.specs.Bits.{Below}
+use Rattle.bits.specs.Lowest.{Lowest}
 use Rattle.bits.proofs.TestLaws.{clash, iff-false, false-iff, iff-stable}
+use Rattle.bits.proofs.LowestLaws.{lowest-none, lowest-is}
 use Rattle.bits.proofs.ByteLaws.{length-words, words-below}
 use Rattle.rdis.specs.Block.{Block, Sized, bit, stuck, stuckCells}
 use Rattle.rdis.specs.Levels.{Outcome, masked, unmaskable, plan}
@@ -21,11 +23,11 @@ use Rattle.rdis.proofs.PackingLaws.{width-holds, plan-packs, plan-counter, read
 use Rattle.rdis.proofs.CountLaws.{faults-are-cells}
 use Rattle.rdis.proofs.FaultLaws.{levels-by-faults}
 use Rattle.gridcalls.specs.Calls.{used, rowsOf, columnsOf}
-use Rattle.gridcalls.specs.Refusals.{Lowest, InRange, WriteLengths, ReadRefused, rangeRead, lengthRead, pastRead, spareRead, aboveRead, WriteRefused, rangeWrite, lengthWrite, pastWrite, chainWrite}
+use Rattle.gridcalls.specs.Refusals.{InRange, WriteLengths, ReadRefused, rangeRead, lengthRead, pastRead, spareRead, aboveRead, WriteRefused, rangeWrite, lengthWrite, pastWrite, chainWrite}
 use Rattle.gridcalls.specs.Promises.{ReadExactly, Read, WriteExactly, Write}
 use Rattle.gridcalls.specs.declared.ReadAnswer.{ReadAnswer}
 use Rattle.gridcalls.specs.declared.WriteAnswer.{WriteAnswer}
-use Rattle.gridcalls.proofs.RefusalLaws.{lowest-none, lowest-is, in-range, write-sized, within, past-iff, read-lowest, write-7, write-lowest}
+use Rattle.gridcalls.proofs.RefusalLaws.{in-range, write-sized, within, past-iff, read-lowest, write-7, write-lowest}
 
 -- ---- a read
 

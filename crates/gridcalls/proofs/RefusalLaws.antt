@@ -1,7 +1,7 @@
 -- The tests of a number test what the refusals say, and the number is the lowest refusal that applies. Assumes nothing.
-use Prim.Native.Nat.{ℕ, zero, suc, _+_, _*_, _^_, _<_, _≤_}
-use mathlib.Core.Path.{_≡_, refl, ap, subst, _∙_}
-use mathlib.Core.Bool.{Bool, true, false, cond}
+use Prim.Native.Nat.{ℕ, _+_, _*_, _^_, _<_, _≤_}
+use mathlib.Core.Path.{_≡_, refl, ap, _∙_}
+use mathlib.Core.Bool.{true, false}
 use mathlib.Core.List.{List}
 use mathlib.Core.Logic.{_↔_, _⊎_, inl, inr, Iff·trans, ⊎-elim}
 use native.Mathlib.Omega.{arith}
@@ -10,7 +10,9 @@ use lib.Dec.{leb}
 use lib.ListN.{length, getD}
 use lib.Pow.{pow-pos}
 use Rattle.bits.specs.Bits.{has, Below}
-use Rattle.bits.proofs.TestLaws.{clash, false-when, lt-or-le, leb-iff, ltb-iff, eqb-iff, iff-false, not-iff, and-iff, or-iff}
+use Rattle.bits.specs.Lowest.{Lowest}
+use Rattle.bits.proofs.TestLaws.{clash, false-when, lt-or-le, leb-iff, ltb-iff, eqb-iff, not-iff, and-iff, or-iff}
+use Rattle.bits.proofs.LowestLaws.{From, test-first, from-none, from-first}
 use Rattle.bits.proofs.BoundLaws.{none-below, some-none, some-iff}
 use Rattle.bits.proofs.BitLaws.{has-zero, high-bit}
 use Rattle.bits.proofs.ByteLaws.{past-end, below-all}
@@ -20,7 +22,7 @@ use Rattle.rdis.specs.Chains.{HasChain}
 use Rattle.rdis.specs.Packing.{width, bytesFor, counter, spareClear}
 use Rattle.rdis.proofs.LevelLaws.{refused-by-chain}
 use Rattle.gridcalls.specs.Calls.{between, inRange, sized, past, readSized, readPast, above, readNumber, writeSized, writePast, refusal, writeNumber}
-use Rattle.gridcalls.specs.Refusals.{Lowest, InRange, ReadLengths, WriteLengths, Past, ReadRefused, rangeRead, lengthRead, pastRead, spareRead, aboveRead, WriteRefused, rangeWrite, lengthWrite, pastWrite, chainWrite}
+use Rattle.gridcalls.specs.Refusals.{InRange, ReadLengths, WriteLengths, Past, ReadRefused, rangeRead, lengthRead, pastRead, spareRead, aboveRead, WriteRefused, rangeWrite, lengthWrite, pastWrite, chainWrite}
 
 -- ---- each test
 
@@ -77,42 +79,6 @@ above-iff : (m n k : ℕ) (counters : List ℕ) → (above m n k counters ≡ tr
 unfolding above
 above-iff m n k counters = some-iff (m + n) _ _ (λ t. ltb-iff k (counter (width k) counters t))
 
--- ---- the lowest
-
-module _ (P : ℕ → Type 0) where
-  -- where none applies it is 0
-  pub lowest-none : (x : ℕ) → Lowest P x → ((y : ℕ) → P y → ⊥) → x ≡ 0
-  lowest-none zero r h = refl
-  lowest-none (suc x) r h = absurd (h (suc x) (r .applies (omega arith)))
-
-  -- one that applies, with none below it, is the lowest
-  pub lowest-is : (x y : ℕ) → Lowest P x → P y → ((z : ℕ) → z < y → P z → ⊥) → x ≡ y
-  lowest-is zero y r p h = absurd (r .none refl y p)
-  lowest-is (suc x) y r p h =
-      let below : suc x < y → ⊥ = λ l. h (suc x) l (r .applies (omega arith)) in
-      let over : y < suc x → ⊥ = λ l. r .lowest y l p in
-      ⊎-elim (λ l. absurd (below l)) (λ l. ⊎-elim (λ q. absurd (over q)) (λ q. omega arith) (lt-or-le y (suc x))) (lt-or-le (suc x) y)
-
--- ---- tests in turn
-
--- of the numbers from a on that apply, x is the lowest
-abbrev From : (ℕ → Type 0) → ℕ → ℕ → Type 0
-From P a x = Lowest (λ y. (a ≤ y) × P y) x
-
-test-first : (P : ℕ → Type 0) (a x : ℕ) (t : Bool) → 0 < a → (t ≡ true) ↔ P a → From P (suc a) x → From P a (cond t a x)
-test-first P a x true z f r = record { applies = λ l. (omega arith, f .0 refl); lowest = λ y l (q, p). omega arith; none = λ e y p. omega arith }
-test-first P a x false z f r = record {
-  applies = λ l. let (q, p) = r .applies l in (omega arith, p);
-  lowest = λ y l (q, p). later y q p (λ s. r .lowest y l (s, p));
-  none = λ e y (q, p). later y q p (λ s. r .none e y (s, p));
-}
-  where
-    later : (y : ℕ) → a ≤ y → P y → (suc a ≤ y → ⊥) → ⊥
-    later y q p g = ⊎-elim g (λ l. let e : y ≡ a = omega arith in iff-false false f refl (subst P e p)) (lt-or-le a y)
-
-from-first : (P : ℕ → Type 0) (x : ℕ) → ((y : ℕ) → P y → 1 ≤ y) → From P 1 x → Lowest P x
-from-first P x h r = record { applies = λ l. r .applies l .1; lowest = λ y l p. r .lowest y l (h y p, p); none = λ e y p. r .none e y (h y p, p) }
-
 -- ---- a read
 
 module _ (m n k : ℕ) (cells counters : List ℕ) (out : ℕ) where
@@ -141,11 +107,11 @@ module _ (m n k : ℕ) (cells counters : List ℕ) (out : ℕ) where
   read-lowest =
       let P = ReadRefused m n k cells counters out in
       from-first P _ (λ y p. read-some y p .0)
-      (test-first P 1 _ _ (omega arith) (Iff·trans (not-iff _ (in-range m n k)) (rangeRead, read-1))
-      (test-first P 2 _ _ (omega arith) (Iff·trans (not-iff _ (read-sized m n k (length cells) (length counters) out)) (lengthRead, read-2))
-      (test-first P 3 _ _ (omega arith) (Iff·trans (read-past-iff m n k cells counters) (⊎-elim pastRead (λ h. spareRead (false-when _ h)), read-3))
-      (test-first P 4 0 _ (omega arith) (Iff·trans (above-iff m n k counters) (λ (t, l, h). aboveRead t l h, read-4))
-      (record { applies = λ l. absurd (omega arith); lowest = λ y l p. omega arith; none = λ e y (q, p). omega (arith, read-some y p) })))))
+      (test-first P 1 _ _ (omega arith) (Iff·trans (not-iff _ (in-range m n k)) (rangeRead, read-1)) (λ _.
+      test-first P 2 _ _ (omega arith) (Iff·trans (not-iff _ (read-sized m n k (length cells) (length counters) out)) (lengthRead, read-2)) (λ _.
+      test-first P 3 _ _ (omega arith) (Iff·trans (read-past-iff m n k cells counters) (⊎-elim pastRead (λ h. spareRead (false-when _ h)), read-3)) (λ _.
+      test-first P 4 0 _ (omega arith) (Iff·trans (above-iff m n k counters) (λ (t, l, h). aboveRead t l h, read-4)) (λ _.
+      from-none P 5 (λ y q p. omega (arith, read-some y p)))))))
 
 -- ---- a write
 
@@ -189,7 +155,6 @@ module _ (b : Block) (k cells counters : ℕ) where
   write-lowest =
       let P = WriteRefused b k cells counters in
       from-first P _ write-some
-      (test-first P 1 _ _ (omega arith) (Iff·trans (not-iff _ (in-range (b .rows) (b .columns) k)) (rangeWrite, write-1))
-      (test-first P 2 _ _ (omega arith) (Iff·trans (not-iff _ (write-sized b k cells counters)) (lengthWrite, write-2))
-      (test-first P 3 _ _ (omega arith) (Iff·trans (write-past-iff b) (pastWrite, write-3))
-      (by-levels (plan b k) refl))))
+      (test-first P 1 _ _ (omega arith) (Iff·trans (not-iff _ (in-range (b .rows) (b .columns) k)) (rangeWrite, write-1)) (λ _.
+      test-first P 2 _ _ (omega arith) (Iff·trans (not-iff _ (write-sized b k cells counters)) (lengthWrite, write-2)) (λ _.
+      test-first P 3 _ _ (omega arith) (Iff·trans (write-past-iff b) (pastWrite, write-3)) (λ _. by-levels (plan b k) refl))))

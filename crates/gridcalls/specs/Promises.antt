@@ -5,6 +5,7 @@ use mathlib.Core.Bool.{true}
 use mathlib.Core.List.{List}
 use mathlib.Core.Logic.{_↔_}
 use lib.ListN.{length}
+use Rattle.bits.specs.Lowest.{Lowest}
 use Rattle.rdis.specs.Block.{Block, Sized, bit, stuck, faults, stuckCells}
 use Rattle.rdis.specs.Levels.{plan}
 use Rattle.rdis.specs.Cells.{stored, reading}
@@ -12,7 +13,7 @@ use Rattle.rdis.specs.Chains.{HasChain}
 use Rattle.rdis.specs.Packing.{width, inOrder, packed, rowCounter, columnCounter}
 use Rattle.rdis.specs.Theorems.{LevelsUsed, withValues}
 use Rattle.gridcalls.specs.Calls.{readNumber, writeNumber, used, rowsOf, columnsOf}
-use Rattle.gridcalls.specs.Refusals.{Lowest, Past, ReadRefused, WriteRefused}
+use Rattle.gridcalls.specs.Refusals.{Past, ReadRefused, WriteRefused}
 use Rattle.gridcalls.specs.declared.ReadAnswer.{ReadAnswer}
 use Rattle.gridcalls.specs.declared.WriteAnswer.{WriteAnswer}
 

@@ -9,12 +9,6 @@ use Rattle.rdis.specs.Block.{Block, bit}
 use Rattle.rdis.specs.Chains.{HasChain}
 use Rattle.rdis.specs.Packing.{width, bytesFor, counter, spareClear}
 
--- x is the lowest number that applies, or 0 where none does
-pub record Lowest (Applies : ℕ → Type 0) (x : ℕ) : Type 0 where
-  pub applies : 0 < x → Applies x
-  pub lowest : (y : ℕ) → y < x → Applies y → ⊥
-  pub none : x ≡ 0 → (y : ℕ) → Applies y → ⊥
-
 -- the rows m, the columns n and K = k lie in their ranges
 pub record InRange (m n k : ℕ) : Type 0 where
   pub rows : (1 ≤ m) × (m ≤ 64)

@@ -1,39 +1,57 @@
 -- What is found in metadata that was encoded, and what is encoded of metadata that was found. Assumes nothing.
 use mathlib.Core.Path.{_≡_, refl, sym, ap, _∙_}
-use mathlib.Core.Bool.{Bool, true, false, not, cond, _&&_}
+use mathlib.Core.Bool.{true, false, not, _&&_, Bool}
 use mathlib.Core.List.{List}
 use mathlib.Core.Logic.{⊎-elim}
 use Prim.Native.Nat.{ℕ, zero, suc, _+_, _-_, _*_, _/_, _%_, _≤_, _<_}
 use native.Mathlib.Nat.{eq-or-lt-of-le}
 use native.Mathlib.Omega.{arith}
-use borrow.Author.Tests.{le-leb, lt-leb, lt-ltb, le-ltb, eqb-true, eq-eqb, ne-eqb, not-false}
+use borrow.Author.Tests.{le-leb, lt-leb, lt-ltb, le-ltb, eqb-true, eq-eqb, ne-eqb, not-false, leb-true, eqb-false, not-true}
 use lib.Dec.{eqb, ltb, leb}
 use lib.ListN.{length, getD}
-use Rattle.bits.specs.Bits.{num, has, at, Below}
-use Rattle.bits.proofs.TestLaws.{true-or-false, lt-or-le, eqb-same}
-use Rattle.bits.proofs.BoundLaws.{some-none, sum-ext, sum-below, list-getD}
-use Rattle.bits.proofs.BitLaws.{has-zero, has-ext}
-use Rattle.bits.proofs.ByteLaws.{at-bytes, length-bytes, is-bytes}
+use Rattle.bits.specs.Bits.{num, has, at, Below, some}
+use Rattle.bits.proofs.TestLaws.{true-or-false, lt-or-le, eqb-same, clash, same-test, and-in, and-left, and-right}
+use Rattle.bits.proofs.BoundLaws.{some-none, sum-ext, sum-below, list-getD, some-in, some-out}
+use Rattle.bits.proofs.BitLaws.{has-zero, has-ext, some-has}
+use Rattle.bits.proofs.ByteLaws.{at-bytes, length-bytes, is-bytes, at-past}
 use Rattle.pointer.specs.Pointer.{size, entry, spare, active, unary, idle, formed, held, repeats, slot, metadataBit, encode, verdict}
-use Rattle.pointer.proofs.MetadataLaws.{has-entry, entry-lt, has-unary, unary-lt, active-full, active-unary, active-part, length-held, getD-held, formed-idle, spare-entry}
+use Rattle.pointer.proofs.MetadataLaws.{has-entry, entry-lt, has-unary, idle-lt, idle-last, idle-other, active-full, active-unary, active-part, length-held, getD-held, formed-idle}
 
--- what stands in an entry's place
+-- ---- the spare bits are one entry more, whose other bits lie past the end
 
-idle-lt : (n a e : ℕ) → idle n a e < 1024
-unfolding idle
-idle-lt n a e = go (eqb (e + 1) n)
+pub spare-entry : (n : ℕ) (m : List ℕ) → length m ≡ size n → spare n m ≡ not (eqb (entry m n) 0)
+unfolding spare
+spare-entry n m l = same-test (spare n m) (not (eqb (entry m n) 0)) there back
   where
-    go : (t : Bool) → cond t (unary a) 0 < 1024
-    go true = unary-lt a
-    go false = omega arith
+    test : ℕ → Bool
+    test p = leb (1 + 10 * n) p && at m p
 
-idle-last : (n a : ℕ) → 1 ≤ n → idle n a (n - 1) ≡ unary a
-unfolding idle
-idle-last n a l = rw (eq-eqb (n - 1 + 1) n (omega arith))
+    set : (p : ℕ) → p < 8 * size n → test p ≡ true → not (eqb (entry m n) 0) ≡ true
+    set p k t =
+        let g : 1 + 10 * n ≤ p = leb-true (1 + 10 * n) p (and-left (leb (1 + 10 * n) p) (at m p) t) in
+        let j : p - (1 + 10 * n) < 10 = omega arith in
+        let e : 1 + 10 * n + (p - (1 + 10 * n)) ≡ p = omega arith in
+        let b : has (entry m n) (p - (1 + 10 * n)) ≡ true =
+        has-entry m n (p - (1 + 10 * n)) j ∙ ap (at m) e ∙ and-right (leb (1 + 10 * n) p) (at m p) t in
+        ap not (ne-eqb (entry m n) 0 (λ z. clash b (ap (λ x. has x (p - (1 + 10 * n))) z ∙ has-zero (p - (1 + 10 * n)))))
 
-idle-spare : (n a e : ℕ) → n ≤ e → idle n a e ≡ 0
-unfolding idle
-idle-spare n a e l = rw (ne-eqb (e + 1) n (omega arith))
+    there : some (8 * size n) test ≡ true → not (eqb (entry m n) 0) ≡ true
+    there h = let (p, k, t) = some-out (8 * size n) test h in set p k t
+
+    found : (k : ℕ) → k < 10 → has (entry m n) k ≡ true → some (8 * size n) test ≡ true
+    found k q b =
+        let c : at m (1 + 10 * n + k) ≡ true = sym (has-entry m n k q) ∙ b in
+        ⊎-elim
+        (λ h. some-in (8 * size n) test (1 + 10 * n + k) h (and-in (le-leb (1 + 10 * n) (1 + 10 * n + k) (omega arith)) c))
+        (λ h. clash c (at-past m (1 + 10 * n + k) (omega arith)))
+        (lt-or-le (1 + 10 * n + k) (8 * size n))
+
+    back : not (eqb (entry m n) 0) ≡ true → some (8 * size n) test ≡ true
+    back h =
+        let (k, q, b) = some-out 10 (has (entry m n)) (some-has 10 (entry m n) (entry-lt m n) .1 (eqb-false (entry m n) 0 (not-true (eqb (entry m n) 0) h))) in
+        found k q b
+
+-- ---- what stands in an entry's place
 
 pub slot-in : (n : ℕ) (es : List ℕ) (e : ℕ) → e < length es → slot n es e ≡ getD es e 0
 unfolding slot
@@ -94,7 +112,7 @@ module _ (n : ℕ) (es : List ℕ) (s : Fits n es) where
       part : length es < n → active n (encode n es) ≡ length es
       part l =
           let m = encode n es in
-          let last : entry m (n - 1) ≡ unary (length es) = entry-slot (n - 1) (omega arith) ∙ slot-idle n es (n - 1) (omega arith) ∙ idle-last n (length es) (s .least) in
+          let last : entry m (n - 1) ≡ unary (length es) = entry-slot (n - 1) (omega arith) ∙ slot-idle n es (n - 1) (omega arith) ∙ idle-last n (length es) (n - 1) (omega arith) in
           active-unary n m (full-encode ∙ ne-eqb (length es) n (omega arith))
           ∙ sum-ext (n - 1) (λ k. num (has (entry m (n - 1)) k)) (λ k. num (ltb k (length es)))
           (λ k h. ap num (ap (λ x. has x k) last ∙ has-unary (length es) k (omega (arith, s .most))))
@@ -107,7 +125,7 @@ module _ (n : ℕ) (es : List ℕ) (s : Fits n es) where
       past : (p : ℕ) → p < 8 * size n → 1 + 10 * n ≤ p → leb (1 + 10 * n) p && at (encode n es) p ≡ false
       past p h l =
           let e : p ≡ 1 + 10 * n + (p - (1 + 10 * n)) = omega arith in
-          let z : slot n es n ≡ 0 = slot-idle n es n (s .few) ∙ idle-spare n (length es) n (omega arith) in
+          let z : slot n es n ≡ 0 = slot-idle n es n (s .few) ∙ idle-other n (length es) n (λ q. omega arith) in
           rw (le-leb (1 + 10 * n) p l)
           (at-encode p h ∙ ap (metadataBit n es) e ∙ metadata-bit n es n (p - (1 + 10 * n)) (omega arith)
           ∙ ap (λ x. has x (p - (1 + 10 * n))) z ∙ has-zero (p - (1 + 10 * n)))
@@ -144,7 +162,7 @@ module _ (n : ℕ) (m : List ℕ) (least : 1 ≤ n) (long : length m ≡ size n)
       last : e ≡ n → entry m e ≡ idle n (active n m) e
       last q =
           ap (entry m) q ∙ eqb-true (entry m n) 0 (not-false (eqb (entry m n) 0) (sym (spare-entry n m long) ∙ clean))
-          ∙ sym (idle-spare n (active n m) e (omega arith))
+          ∙ sym (idle-other n (active n m) e (λ z. omega arith))
 
   bit-held : (p : ℕ) → p < 8 * size n → at m p ≡ metadataBit n (held n m) p
   unfolding metadataBit

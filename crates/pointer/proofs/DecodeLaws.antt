@@ -22,7 +22,8 @@ use Rattle.bits.proofs.DigitLaws.{window-bit}
 use Rattle.pointer.specs.Pointer.{size, pointer, entry, spare, active, unary, idle, formed, held, names, repeats, verdict}
 use Rattle.pointer.specs.Steps.{Marked, Decoded}
 use Rattle.pointer.proofs.EntryLaws.{names-snoc, repeats-snoc}
-use Rattle.pointer.proofs.MetadataLaws.{has-entry, entry-lt, unary-ones, active-le, spare-entry}
+use Rattle.pointer.proofs.MetadataLaws.{has-entry, entry-lt, unary-ones, active-le}
+use Rattle.pointer.proofs.CodecLaws.{spare-entry}
 use Rattle.pointer.proofs.OctetLaws.{at-changed}
 
 -- ---- an entry

@@ -2,44 +2,50 @@
 use mathlib.Core.Path.{_≡_, refl, sym, ap, subst, _∙_}
 use mathlib.Core.Bool.{Bool, true, false, cond}
 use mathlib.Core.List.{List}
-use mathlib.Core.Logic.{_↔_, _≢_}
+use mathlib.Core.Logic.{_≢_}
 use Prim.Native.Nat.{ℕ, _+_, _≤_, _<_}
 use native.Mathlib.Omega.{arith}
 use lib.ListN.{length, getD}
 use Rattle.bits.specs.Bits.{at, bytes, Below}
+use Rattle.bits.specs.Lowest.{Lowest}
 use Rattle.bits.proofs.ByteLaws.{length-bytes, at-bytes, is-bytes}
-use Rattle.pointer.specs.Pointer.{pointer, replacement, entry, active, held, shown, unserved, after, activeAfter, stored, encode, readNumber, needed, writeJudged, writeNumber}
+use Rattle.pointer.specs.Pointer.{pointer, replacement, entry, active, held, shown, unserved, after, activeAfter, stored, encode, readNumber, needed, writeNumber}
+use Rattle.pointer.specs.Refusals.{ReadRefused, WriteRefused}
 use Rattle.pointer.specs.Promises.{Read, Write}
 use Rattle.pointer.proofs.MetadataLaws.{length-held, getD-held}
 use Rattle.pointer.proofs.CodecLaws.{Fits, length-encode, entry-encode, active-encode, held-encode, verdict-encode}
-use Rattle.pointer.proofs.NumberLaws.{Accepted, read-ok, full-exactly, wanted-long, write-zero}
+use Rattle.pointer.proofs.NumberLaws.{Accepted, read-ok, wanted-long, write-zero}
+use Rattle.pointer.proofs.RefusalLaws.{read-lowest, write-lowest, full-exactly}
 use Rattle.pointer.proofs.AfterLaws.{length-after, after-below, after-replacement, after-old, after-serves, after-rises, after-differs, after-shows}
 
 -- ---- a read
 
+read-number : (n k : ℕ) (cells m out : List ℕ) → k ≡ readNumber n (length cells) m (length out) → Lowest (ReadRefused n (length cells) m (length out)) k
+read-number n k cells m out e = subst (Lowest (ReadRefused n (length cells) m (length out))) (sym e) (read-lowest n (length cells) m (length out))
+
 pub read-refused : (n k : ℕ) (cells m out : List ℕ) → k ≡ readNumber n (length cells) m (length out) → k ≢ 0 → Read n cells m out (record { number = k }) out
-read-refused n k cells m out e h = record { number = e; refused = λ _. refl; filled = λ z. absurd (h z) }
+read-refused n k cells m out e h = record { number = e; lowest = read-number n k cells m out e; refused = λ _. refl; filled = λ z. absurd (h z) }
 
 pub read-accepted : (n : ℕ) (cells m out out′ : List ℕ) → 0 ≡ readNumber n (length cells) m (length out) → out′ ≡ bytes 64 (λ p. shown (held n m) p (at cells p))
     → Read n cells m out (record { number = 0 }) out′
-read-accepted n cells m out out′ e h = record { number = e; refused = λ z. absurd (z refl); filled = λ _. h }
+read-accepted n cells m out out′ e h = record { number = e; lowest = read-number n 0 cells m out e; refused = λ z. absurd (z refl); filled = λ _. h }
 
 -- ---- a write
 
 module _ (n : ℕ) (wanted mask values cells m : List ℕ) where
-  full : (k : ℕ) → k ≡ writeNumber n wanted mask values (length cells) m → writeJudged n wanted mask values (length cells) m ≡ 0
-      → (k ≡ 6) ↔ (n < active n m + needed wanted mask values (held n m))
-  full k e j = let (to, from) = full-exactly n wanted mask values (length cells) m j in (λ h. to (sym e ∙ h), λ l. e ∙ from l)
+  write-number : (k : ℕ) → k ≡ writeNumber n wanted mask values (length cells) m → Lowest (WriteRefused n wanted mask values (length cells) m) k
+  write-number k e = subst (Lowest (WriteRefused n wanted mask values (length cells) m)) (sym e) (write-lowest n wanted mask values (length cells) m)
 
   pub write-refused : (k : ℕ) → k ≡ writeNumber n wanted mask values (length cells) m → k ≢ 0
       → Write n wanted mask values cells m (record { number = k; active = 0; new = 0 }) cells m
   write-refused k e h = record {
     number = e;
+    lowest = write-number k e;
     refused = λ _. (refl, refl, refl, refl);
     stores = λ z. absurd (h z);
     encodes = λ z. absurd (h z);
     counts = λ z. absurd (h z);
-    full = full k e;
+    full = full-exactly n wanted mask values (length cells) m k (write-number k e);
     sound = λ z. absurd (h z);
     stuck = λ z. absurd (h z);
     noted = λ z. absurd (h z);
@@ -127,11 +133,12 @@ module _ (n : ℕ) (wanted mask values cells m : List ℕ) where
     unfolding exit row es
     exact e b = record {
       number = e;
+      lowest = write-number 0 e;
       refused = λ z. absurd (z refl);
       stores = λ _. refl;
       encodes = λ _. refl;
       counts = λ _. (refl, refl);
-      full = full 0 e;
+      full = full-exactly n wanted mask values (length cells) m 0 (write-number 0 e);
       sound = λ _. held-at false;
       stuck = λ _. held-at true;
       noted = λ _. adds ∙ sym counted;

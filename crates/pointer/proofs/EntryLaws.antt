@@ -2,14 +2,44 @@
 use mathlib.Core.Path.{_≡_, refl, sym, ap, ap₂, _∙_}
 use mathlib.Core.Bool.{Bool, true, false, cond, _||_}
 use mathlib.Core.List.{List, [], _∷_, _++_, map}
+use mathlib.Core.Logic.{_↔_, _⊎_, inl, inr, Iff·trans, ⊎-elim}
 use Prim.Native.Nat.{ℕ, zero, suc, _+_, _*_, _/_, _%_, _<_}
 use native.Mathlib.Omega.{arith}
 use borrow.Author.Tests.{eqb-true, eq-eqb}
 use lib.Dec.{eqb}
 use lib.ListN.{length, getD}
 use Rattle.bits.specs.Bits.{num, has, at}
-use Rattle.bits.proofs.TestLaws.{same-test, num-lt, eqb-num}
+use Rattle.bits.proofs.TestLaws.{clash, eqb-iff, or-iff, same-test, num-lt, eqb-num}
 use Rattle.pointer.specs.Pointer.{pointer, replacement, names, repeats, shown, renewed}
+
+-- ---- what the tests test
+
+pub names-iff : (es : List ℕ) (p : ℕ) → (names es p ≡ true) ↔ ((i : ℕ) × (i < length es) × (pointer (getD es i 0) ≡ p))
+unfolding names
+names-iff [] p = (λ h. clash h refl, λ (i, l, h). absurd (omega arith))
+names-iff (e ∷ es) p = Iff·trans (or-iff _ (eqb-iff (pointer e) p) _ (names-iff es p)) (⊎-elim (λ h. (0, omega arith, h)) (λ (i, l, h). (suc i, omega arith, h)), back)
+  where
+    back : (i : ℕ) × (i < length (e ∷ es)) × (pointer (getD (e ∷ es) i 0) ≡ p) → (pointer e ≡ p) ⊎ ((i : ℕ) × (i < length es) × (pointer (getD es i 0) ≡ p))
+    back (zero, l, h) = inl h
+    back (suc i, l, h) = inr (i, omega arith, h)
+
+-- two different places of the list hold one pointer
+abbrev pub Twice : List ℕ → Type 0
+Twice es = (i : ℕ) × (j : ℕ) × (i < j) × (j < length es) × (pointer (getD es j 0) ≡ pointer (getD es i 0))
+
+pub repeats-iff : (es : List ℕ) → (repeats es ≡ true) ↔ Twice es
+unfolding repeats
+repeats-iff [] = (λ h. clash h refl, λ (i, j, d, l, h). absurd (omega arith))
+repeats-iff (e ∷ es) =
+    Iff·trans (or-iff _ (names-iff es (pointer e)) _ (repeats-iff es))
+    (⊎-elim (λ (j, l, h). (0, suc j, omega arith, omega arith, h)) (λ (i, j, d, l, h). (suc i, suc j, omega arith, omega arith, h)), back)
+  where
+    back : Twice (e ∷ es) → ((j : ℕ) × (j < length es) × (pointer (getD es j 0) ≡ pointer e)) ⊎ Twice es
+    back (i, zero, d, l, h) = absurd (omega arith)
+    back (zero, suc j, d, l, h) = inl (j, omega arith, h)
+    back (suc i, suc j, d, l, h) = inr (i, j, omega arith, omega arith, h)
+
+-- ---- one entry more, at the end
 
 or-assoc : (a b c : Bool) → a || (b || c) ≡ a || b || c
 or-assoc true b c = refl
@@ -17,8 +47,6 @@ or-assoc false b c = refl
 
 eqb-sym : (a b : ℕ) → eqb a b ≡ eqb b a
 eqb-sym a b = same-test (eqb a b) (eqb b a) (λ h. eq-eqb b a (sym (eqb-true a b h))) (λ h. eq-eqb a b (sym (eqb-true b a h)))
-
--- ---- one entry more, at the end
 
 pub names-append : (xs ys : List ℕ) (p : ℕ) → names (xs ++ ys) p ≡ names xs p || names ys p
 unfolding names

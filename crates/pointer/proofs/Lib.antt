@@ -1,6 +1,9 @@
 pub mod EntryLaws
 pub mod PositionLaws
 pub mod MetadataLaws
+pub mod FormedLaws
+pub mod ServedLaws
+pub mod RefusalLaws
 pub mod CodecLaws
 pub mod NumberLaws
 pub mod Inverse

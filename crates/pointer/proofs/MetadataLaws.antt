@@ -1,20 +1,19 @@
 -- Laws of metadata as it stands: its entries, the active ones, and its spare bits. Assumes nothing.
-use mathlib.Core.Path.{_≡_, refl, sym, ap, _∙_}
+use mathlib.Core.Path.{_≡_, refl, ap}
 use mathlib.Core.Bool.{Bool, true, false, not, cond, _&&_}
 use mathlib.Core.List.{List}
-use mathlib.Core.Logic.{⊎-elim}
+use mathlib.Core.Logic.{_≢_, ⊎-elim}
 use Prim.Native.Nat.{ℕ, _+_, _-_, _*_, _^_, _≤_, _<_}
 use native.Mathlib.Omega.{arith}
-use borrow.Author.Tests.{leb-true, le-leb, ne-eqb, eqb-true, eqb-false, not-true}
+use borrow.Author.Tests.{le-leb, eq-eqb, ne-eqb, eqb-true, not-true}
 use lib.Dec.{eqb, ltb, leb}
 use lib.ListN.{length, getD}
 use lib.Pow.{pow-mono, pow-pos}
 use Rattle.bits.specs.Bits.{num, some, sum, has, at}
-use Rattle.bits.proofs.TestLaws.{clash, same-test, true-or-false, lt-or-le, and-in, and-left, and-right}
-use Rattle.bits.proofs.BoundLaws.{some-in, some-out, sum-num-le, length-list, getD-list}
-use Rattle.bits.proofs.BitLaws.{has-zero, has-word, word-lt, is-word, has-ones, some-has}
-use Rattle.bits.proofs.ByteLaws.{at-past}
-use Rattle.pointer.specs.Pointer.{size, entry, spare, active, unary, idle, formed, held}
+use Rattle.bits.proofs.TestLaws.{clash, true-or-false, and-in}
+use Rattle.bits.proofs.BoundLaws.{some-in, sum-num-le, length-list, getD-list}
+use Rattle.bits.proofs.BitLaws.{has-word, word-lt, is-word, has-ones}
+use Rattle.pointer.specs.Pointer.{entry, active, unary, idle, formed, held}
 
 pub has-entry : (m : List ℕ) (e k : ℕ) → k < 10 → has (entry m e) k ≡ at m (1 + 10 * e + k)
 unfolding entry
@@ -30,7 +29,7 @@ pub has-unary : (a k : ℕ) → k < 10 → has (unary a) k ≡ ltb k a
 unfolding unary
 has-unary a k h = has-word 10 (λ k. ltb k a) k h
 
-pub unary-lt : (a : ℕ) → unary a < 1024
+unary-lt : (a : ℕ) → unary a < 1024
 unfolding unary
 unary-lt a = word-lt 10 (λ k. ltb k a)
 
@@ -38,6 +37,24 @@ unary-lt a = word-lt 10 (λ k. ltb k a)
 pub unary-ones : (a : ℕ) → a ≤ 10 → 2 ^ a - 1 ≡ unary a
 unfolding unary
 unary-ones a h = is-word 10 (2 ^ a - 1) (λ k. ltb k a) (omega (arith, pow-mono h, pow-pos a)) (λ j _. has-ones a j)
+
+-- ---- what an entry that is not active holds, where a are
+
+pub idle-lt : (n a e : ℕ) → idle n a e < 1024
+unfolding idle
+idle-lt n a e = go (eqb (e + 1) n)
+  where
+    go : (t : Bool) → cond t (unary a) 0 < 1024
+    go true = unary-lt a
+    go false = omega arith
+
+pub idle-last : (n a e : ℕ) → e + 1 ≡ n → idle n a e ≡ unary a
+unfolding idle
+idle-last n a e h = rw (eq-eqb (e + 1) n h)
+
+pub idle-other : (n a e : ℕ) → e + 1 ≢ n → idle n a e ≡ 0
+unfolding idle
+idle-other n a e h = rw (ne-eqb (e + 1) n h)
 
 -- ---- the active entries
 
@@ -73,38 +90,4 @@ formed-idle n m h e k l = go (eqb (entry m e) (idle n (active n m) e)) refl
 
     go : (t : Bool) → eqb (entry m e) (idle n (active n m) e) ≡ t → entry m e ≡ idle n (active n m) e
     go true q = eqb-true (entry m e) (idle n (active n m) e) q
-    go false q = clash (some-in n test e l (and-in (le-leb (active n m) e k) (ap not q))) (not-true (some n test) h)
-
--- ---- the spare bits are one entry more, whose other bits lie past the end
-
-pub spare-entry : (n : ℕ) (m : List ℕ) → length m ≡ size n → spare n m ≡ not (eqb (entry m n) 0)
-unfolding spare
-spare-entry n m l = same-test (spare n m) (not (eqb (entry m n) 0)) there back
-  where
-    test : ℕ → Bool
-    test p = leb (1 + 10 * n) p && at m p
-
-    set : (p : ℕ) → p < 8 * size n → test p ≡ true → not (eqb (entry m n) 0) ≡ true
-    set p k t =
-        let g : 1 + 10 * n ≤ p = leb-true (1 + 10 * n) p (and-left (leb (1 + 10 * n) p) (at m p) t) in
-        let j : p - (1 + 10 * n) < 10 = omega arith in
-        let e : 1 + 10 * n + (p - (1 + 10 * n)) ≡ p = omega arith in
-        let b : has (entry m n) (p - (1 + 10 * n)) ≡ true =
-        has-entry m n (p - (1 + 10 * n)) j ∙ ap (at m) e ∙ and-right (leb (1 + 10 * n) p) (at m p) t in
-        ap not (ne-eqb (entry m n) 0 (λ z. clash b (ap (λ x. has x (p - (1 + 10 * n))) z ∙ has-zero (p - (1 + 10 * n)))))
-
-    there : some (8 * size n) test ≡ true → not (eqb (entry m n) 0) ≡ true
-    there h = let (p, k, t) = some-out (8 * size n) test h in set p k t
-
-    found : (k : ℕ) → k < 10 → has (entry m n) k ≡ true → some (8 * size n) test ≡ true
-    found k q b =
-        let c : at m (1 + 10 * n + k) ≡ true = sym (has-entry m n k q) ∙ b in
-        ⊎-elim
-        (λ h. some-in (8 * size n) test (1 + 10 * n + k) h (and-in (le-leb (1 + 10 * n) (1 + 10 * n + k) (omega arith)) c))
-        (λ h. clash c (at-past m (1 + 10 * n + k) (omega arith)))
-        (lt-or-le (1 + 10 * n + k) (8 * size n))
-
-    back : not (eqb (entry m n) 0) ≡ true → some (8 * size n) test ≡ true
-    back h =
-        let (k, q, b) = some-out 10 (has (entry m n)) (some-has 10 (entry m n) (entry-lt m n) .1 (eqb-false (entry m n) 0 (not-true (eqb (entry m n) 0) h))) in
-        found k q b
+    go false q = clash (some-in n test e l (and-in (le-leb _ e (omega arith)) (ap not q))) (not-true (some n test) h)

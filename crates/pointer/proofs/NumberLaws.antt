@@ -1,11 +1,10 @@
 -- Laws of the numbers that are answered: what a 0 tells. Assumes nothing.
-use mathlib.Core.Path.{_≡_, refl, sym, ap, _∙_}
+use mathlib.Core.Path.{_≡_, refl, sym}
 use mathlib.Core.Bool.{Bool, true, false, cond, _&&_}
 use mathlib.Core.List.{List}
-use mathlib.Core.Logic.{_↔_}
 use Prim.Native.Nat.{ℕ, zero, suc, _+_, _≤_, _<_}
 use native.Mathlib.Omega.{arith}
-use borrow.Author.Tests.{leb-true, le-leb, lt-leb, ltb-true, ltb-false, lt-ltb, eqb-true, eq-eqb}
+use borrow.Author.Tests.{leb-true, le-leb, lt-leb, ltb-false, eqb-true, eq-eqb}
 use lib.Dec.{eqb, ltb, leb}
 use lib.ListN.{length}
 use Rattle.bits.proofs.TestLaws.{and-in, and-left, and-right}
@@ -85,19 +84,6 @@ verdict-zero n m h = let (a, b, c) = go (spare n m) (formed n m) (repeats (held 
 -- ---- a write
 
 module _ (n : ℕ) (wanted mask values : List ℕ) (cells : ℕ) (m : List ℕ) where
-  -- 6 exactly where the active entries and the unserved positions are more than n
-  pub full-exactly : writeJudged n wanted mask values cells m ≡ 0 → (writeNumber n wanted mask values cells m ≡ 6) ↔ (n < active n m + needed wanted mask values (held n m))
-  unfolding writeNumber
-  full-exactly j =
-      let e : writeNumber n wanted mask values cells m ≡ cond (ltb n (active n m + needed wanted mask values (held n m))) 6 0 = rw j in (
-        λ h. over (ltb n (active n m + needed wanted mask values (held n m))) refl (sym e ∙ h),
-        λ l. e ∙ ap (λ t. cond t 6 0) (lt-ltb n (active n m + needed wanted mask values (held n m)) l),
-      )
-    where
-      over : (t : Bool) → ltb n (active n m + needed wanted mask values (held n m)) ≡ t → _≡_ {A = ℕ} (cond t 6 0) 6 → n < active n m + needed wanted mask values (held n m)
-      over true e h = ltb-true n (active n m + needed wanted mask values (held n m)) e
-      over false e h = absurd (omega arith)
-
   -- what an accepted write tells
   pub record Accepted : Type 0 where
     pub sizes : Measured n (eqb (length wanted) 64 && eqb (length mask) 64 && eqb (length values) 64 && eqb cells 64) (length m)

@@ -1,3 +1,4 @@
 pub mod Pointer
+pub mod Refusals
 pub mod Promises
 pub mod Steps

@@ -7,29 +7,35 @@ use mathlib.Core.List.{List}
 use mathlib.Core.Logic.{_↔_, _≢_}
 use lib.ListN.{length}
 use Rattle.bits.specs.Bits.{at, bytes}
-use Rattle.pointer.specs.Pointer.{pointer, replacement, entry, active, held, shown, unserved, after, activeAfter, stored, encode, readNumber, needed, writeJudged, writeNumber}
+use Rattle.bits.specs.Lowest.{Lowest}
+use Rattle.pointer.specs.Pointer.{pointer, replacement, entry, active, held, shown, unserved, after, activeAfter, stored, encode, readNumber, needed, writeNumber}
+use Rattle.pointer.specs.Refusals.{ReadRefused, WriteRefused}
 use Rattle.pointer.specs.declared.ReadAnswer.{ReadAnswer}
 use Rattle.pointer.specs.declared.WriteAnswer.{WriteAnswer}
 
 pub record Read (n : ℕ) (cells metadata out : List ℕ) (answer : ReadAnswer) (out′ : List ℕ) : Type 0 where
-  -- the lowest number that applies, 0 where none does
+  -- the number, computed
   pub number : answer .number ≡ readNumber n (length cells) metadata (length out)
+  -- the lowest refusal that applies, or 0 where none does
+  pub lowest : Lowest (ReadRefused n (length cells) metadata (length out)) (answer .number)
   -- a refusal alters nothing
   pub refused : answer .number ≢ 0 → out′ ≡ out
   -- else each position's bit is what it shows
   pub filled : answer .number ≡ 0 → out′ ≡ bytes 64 (λ p. shown (held n metadata) p (at cells p))
 
 pub record Write (n : ℕ) (wanted mask values cells metadata : List ℕ) (answer : WriteAnswer) (cells′ metadata′ : List ℕ) : Type 0 where
-  -- the lowest number that applies, 0 where none does
+  -- the number, computed
   pub number : answer .number ≡ writeNumber n wanted mask values (length cells) metadata
+  -- the lowest refusal that applies, or 0 where none does
+  pub lowest : Lowest (WriteRefused n wanted mask values (length cells) metadata) (answer .number)
   -- a refusal alters nothing and counts nothing
   pub refused : answer .number ≢ 0 → (answer .active ≡ 0) × (answer .new ≡ 0) × (cells′ ≡ cells) × (metadata′ ≡ metadata)
   -- else the cells, the metadata and the counts are exactly these
   pub stores : answer .number ≡ 0 → cells′ ≡ bytes 64 (stored wanted mask values)
   pub encodes : answer .number ≡ 0 → metadata′ ≡ encode n (after wanted mask values (held n metadata))
   pub counts : answer .number ≡ 0 → (answer .active ≡ activeAfter n wanted mask values metadata) × (answer .new ≡ needed wanted mask values (held n metadata))
-  -- 6 exactly where the active entries and the unserved positions are more than n
-  pub full : writeJudged n wanted mask values (length cells) metadata ≡ 0 → (answer .number ≡ 6) ↔ (n < active n metadata + needed wanted mask values (held n metadata))
+  -- where none of 1 to 5 applies: 6 exactly where the active entries and the unserved positions are more than n
+  pub full : ((x : ℕ) → x < 6 → WriteRefused n wanted mask values (length cells) metadata x → ⊥) → (answer .number ≡ 6) ↔ (n < active n metadata + needed wanted mask values (held n metadata))
   -- a sound cell takes its wanted bit, a stuck one holds its stuck value
   pub sound : answer .number ≡ 0 → (p : ℕ) → p < 512 → at mask p ≡ false → at cells′ p ≡ at wanted p
   pub stuck : answer .number ≡ 0 → (p : ℕ) → p < 512 → at mask p ≡ true → at cells′ p ≡ at values p
