@@ -9,7 +9,7 @@ use Rattle.rdis.specs.Levels.{whole, takes, taken, left, levels, plan}
 use Rattle.rdis.specs.Cells.{flips, holds, stored}
 use Rattle.rdis.specs.Packing.{width, bytesFor, packed}
 use Rattle.gridcalls.specs.Calls.{inRange, sized, past, writeNumber}
-use Rattle.pointer.specs.Pointer as pointer
+use Rattle.pointercalls.specs.Pointer as pointer
 use Rattle.cases.specs.Lines.{line}
 use Rattle.cases.specs.Table.{table}
 

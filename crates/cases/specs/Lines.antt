@@ -9,7 +9,7 @@ use Rattle.rdis.specs.Levels.{plan}
 use Rattle.rdis.specs.Cells.{stored}
 use Rattle.rdis.specs.Packing.{width, inOrder, packed}
 use Rattle.gridcalls.specs.Calls.{writeNumber, used, rowsOf, columnsOf}
-use Rattle.pointer.specs.Pointer as pointer
+use Rattle.pointercalls.specs.Pointer as pointer
 
 -- a line: the number and the counts, and the buffers afterwards
 pub record Line : Type 0 where

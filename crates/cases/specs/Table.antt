@@ -5,7 +5,7 @@ use mathlib.Core.List.{List, [], _∷_}
 use lib.ListN.{replicate}
 use Rattle.rdis.specs.Block.{Block}
 use Rattle.gridcalls.specs.Calls.{block}
-use Rattle.pointer.specs.Pointer.{entryOf}
+use Rattle.pointercalls.specs.Pointer.{entryOf}
 use Rattle.cases.specs.Lines.{Line, ones, Call, metadata, pointerRead, pointerWrite, gridWrite}
 
 -- a call, and the line that document 01 gives for it

@@ -19,11 +19,11 @@ use Rattle.bits.proofs.BoundLaws.{some-in, some-none, some-ext, sum-ext, getD-l
 use Rattle.bits.proofs.BitLaws.{has-low, has-ext, one-shl, ones-bits}
 use Rattle.bits.proofs.ByteLaws.{at-zeros}
 use Rattle.bits.proofs.DigitLaws.{window-bit}
-use Rattle.pointer.specs.Pointer.{size, pointer, entry, spare, active, unary, idle, formed, held, names, repeats, verdict}
+use Rattle.pointercalls.specs.Pointer.{size, pointer, entry, spare, active, unary, idle, formed, held, names, repeats, verdict}
 use Rattle.pointer.specs.Steps.{Marked, Decoded}
-use Rattle.pointer.proofs.EntryLaws.{names-snoc, repeats-snoc}
-use Rattle.pointer.proofs.MetadataLaws.{has-entry, entry-lt, unary-ones, active-le}
-use Rattle.pointer.proofs.CodecLaws.{spare-entry}
+use Rattle.pointercalls.proofs.EntryLaws.{names-snoc, repeats-snoc}
+use Rattle.pointercalls.proofs.MetadataLaws.{has-entry, entry-lt, unary-ones, active-le}
+use Rattle.pointercalls.proofs.CodecLaws.{spare-entry}
 use Rattle.pointer.proofs.OctetLaws.{at-changed}
 
 -- ---- an entry

@@ -14,10 +14,10 @@ use Rattle.bits.proofs.TestLaws.{num-eqb}
 use Rattle.bits.proofs.BitLaws.{is-word}
 use Rattle.bits.proofs.ByteLaws.{below-all, bytes-more, bytes-done}
 use Rattle.bits.proofs.DigitLaws.{window-bit}
-use Rattle.pointer.specs.Pointer.{size, idle, renewed, slot, metadataBit, encode}
+use Rattle.pointercalls.specs.Pointer.{size, idle, renewed, slot, metadataBit, encode}
 use Rattle.pointer.specs.Steps.{digit}
-use Rattle.pointer.proofs.EntryLaws.{renewed-lt, getD-renewed}
-use Rattle.pointer.proofs.CodecLaws.{slot-in, slot-idle, slot-lt}
+use Rattle.pointercalls.proofs.EntryLaws.{renewed-lt, getD-renewed}
+use Rattle.pointercalls.proofs.CodecLaws.{slot-in, slot-idle, slot-lt}
 
 -- ---- entries
 

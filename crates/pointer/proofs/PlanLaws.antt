@@ -15,10 +15,10 @@ use lib.Seq.{length-take-le, take-suc-set}
 use Rattle.bits.specs.Bits.{has, at, Below}
 use Rattle.bits.proofs.TestLaws.{and-left, lt-or-le}
 use Rattle.bits.proofs.BitLaws.{has-zero, has-high, has-shr, lowest-set, below-lowest}
-use Rattle.pointer.specs.Pointer.{positions}
+use Rattle.pointercalls.specs.Pointer.{positions}
 use Rattle.pointer.specs.Steps.{unservedAt, unservedFrom, Planned}
 use Rattle.pointer.proofs.OctetLaws.{bit-unserved}
-use Rattle.pointer.proofs.PositionLaws.{positions-take, positions-none, positions-grow}
+use Rattle.pointercalls.proofs.PositionLaws.{positions-take, positions-none, positions-grow}
 
 -- ---- what is found in a byte
 

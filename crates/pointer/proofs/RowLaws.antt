@@ -9,13 +9,13 @@ use lib.Dec.{eqb, ltb}
 use lib.ListN.{length, take, length-append, length-map}
 use Rattle.bits.specs.Bits.{list, at, bytes, Below}
 use Rattle.bits.proofs.TestLaws.{and-left, and-right}
-use Rattle.pointer.specs.Pointer.{size, entry, active, held, names, shown, unserved, positions, renewed, after, activeAfter, stored, encode, orElse, measured, verdict, readNumber, needed, writeJudged, writeNumber}
-use Rattle.pointer.specs.Promises.{Read, Write}
+use Rattle.pointercalls.specs.Pointer.{size, entry, active, held, names, shown, unserved, positions, renewed, after, activeAfter, stored, encode, orElse, measured, verdict, readNumber, needed, writeJudged, writeNumber}
+use Rattle.pointercalls.specs.Promises.{Read, Write}
 use Rattle.pointer.specs.Steps.{Sized, Decoded, unservedAt, Planned}
-use Rattle.pointer.proofs.PositionLaws.{length-positions, positions-ext}
-use Rattle.pointer.proofs.MetadataLaws.{length-held}
-use Rattle.pointer.proofs.NumberLaws.{measured-zero, read-ok, write-ok}
-use Rattle.pointer.proofs.Demands.{read-refused, read-accepted, write-refused, write-accepted}
+use Rattle.pointercalls.proofs.PositionLaws.{length-positions, positions-ext}
+use Rattle.pointercalls.proofs.MetadataLaws.{length-held}
+use Rattle.pointercalls.proofs.NumberLaws.{measured-zero, read-ok, write-ok}
+use Rattle.pointercalls.proofs.Demands.{read-refused, read-accepted, write-refused, write-accepted}
 
 first-number : (j k : ℕ) → 0 < j → orElse j k ≡ j
 first-number zero k h = absurd (omega arith)

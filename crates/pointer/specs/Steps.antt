@@ -6,7 +6,7 @@ use mathlib.Core.List.{List, _++_}
 use lib.ListN.{length, take}
 use lib.Dec.{eqb, ltb}
 use Rattle.bits.specs.Bits.{list, has, at}
-use Rattle.pointer.specs.Pointer.{size, entry, active, names, repeats, positions, slot, verdict}
+use Rattle.pointercalls.specs.Pointer.{size, entry, active, names, repeats, positions, slot, verdict}
 
 -- the metadata's bits after nine others, as digits of ten bits: the full bit is the highest of the first, and each entry is one of the others
 unfoldable pub digit : ℕ → List ℕ → ℕ → ℕ

@@ -5,7 +5,7 @@ ghost use mathlib.Core.Bool.{cond};
 ghost use Prim.Native.Nat.{ℕ, _≤_};
 ghost use lib.ListN.{length, take};
 ghost use Rattle.bits.specs.Bits.{has, at, bytes};
-ghost use Rattle.pointer.specs.Pointer.{shown, stored};
+ghost use Rattle.pointercalls.specs.Pointer.{shown, stored};
 
 pub fn copy(cells: &[u8], out: &mut [u8])
     requires { ⌜ (length (now cells) ≡ 64) × (length (now out) ≡ 64) ⌝ }

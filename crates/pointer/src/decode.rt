@@ -7,7 +7,7 @@ ghost use Prim.Native.Nat.{_+_, _-_, _≤_, _<_};
 ghost use lib.Dec.{eqb, leb};
 ghost use lib.ListN.{length, getD, take};
 ghost use Rattle.bits.specs.Bits.{num, some, sum, list, has};
-ghost use Rattle.pointer.specs.Pointer.{size, entry, idle};
+ghost use Rattle.pointercalls.specs.Pointer.{size, entry, idle};
 ghost use Rattle.pointer.specs.Steps.{Marked, Decoded};
 
 // The entries as they stand, which of them are active, and the positions that these name.

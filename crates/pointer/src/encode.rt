@@ -7,7 +7,7 @@ ghost use mathlib.Core.List.{map};
 ghost use Prim.Native.Nat.{_≤_, _<_};
 ghost use lib.Dec.{eqb};
 ghost use lib.ListN.{length, take};
-ghost use Rattle.pointer.specs.Pointer.{size, renewed, encode};
+ghost use Rattle.pointercalls.specs.Pointer.{size, renewed, encode};
 ghost use Rattle.pointer.specs.Steps.{digit};
 
 // The metadata of the first a entries, with their data bits. A byte lies in two digits at most.

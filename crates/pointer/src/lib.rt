@@ -5,26 +5,16 @@ mod plan; // which entries a write needs
 mod encode; // from entries to metadata
 mod cells; // the 64 bytes of a row
 
+use pointercalls::ReadAnswer;
+use pointercalls::WriteAnswer;
 ghost use mathlib.Core.Path.{_≡_};
 ghost use mathlib.Core.Bool.{_&&_};
 ghost use Prim.Native.Nat.{_≤_};
 ghost use lib.Dec.{eqb};
 ghost use lib.ListN.{length};
-ghost use Rattle.pointer.specs.Pointer.{measured, size};
-ghost use Rattle.pointer.specs.Promises.{Read, Write};
+ghost use Rattle.pointercalls.specs.Pointer.{measured, size};
+ghost use Rattle.pointercalls.specs.Promises.{Read, Write};
 ghost use Rattle.pointer.specs.Steps.{Sized};
-
-// What a read answers: 0, or the number of its refusal.
-pub struct ReadAnswer {
-    pub number: usize,
-}
-
-// What a write answers: 0, the active entries afterwards and how many of them are new; or the number of its refusal.
-pub struct WriteAnswer {
-    pub number: usize,
-    pub active: usize,
-    pub new: usize,
-}
 
 // What each position shows goes into out.
 pub fn read(n: usize, cells: &[u8], metadata: &[u8], out: &mut [u8]) -> ReadAnswer

@@ -6,8 +6,8 @@ use lib.Dec.{eqb}
 use borrow.Author.Needs.{needs}
 use native.Mathlib.Omega.{arith}
 use Rattle.bits.proofs.TestLaws.{and-in}
-use Rattle.pointer.specs.Pointer.{size}
-use Rattle.pointer.proofs.NumberLaws.{measured-low, measured-high, measured-in}
+use Rattle.pointercalls.specs.Pointer.{size}
+use Rattle.pointercalls.proofs.NumberLaws.{measured-low, measured-high, measured-in}
 use Rattle.pointer.proofs.measured.Statement.{statement}
 use Rattle.pointer.proofs.measured.Tie as tie
 

@@ -5,7 +5,7 @@ use lib.Dec.{eqb}
 use lib.ListN.{length}
 use borrow.Author.Needs.{needs}
 use native.Mathlib.Omega.{arith}
-use Rattle.pointer.specs.Pointer.{measured}
+use Rattle.pointercalls.specs.Pointer.{measured}
 use Rattle.pointer.proofs.RowLaws.{read-unmeasured, read-sized}
 use Rattle.pointer.proofs.read.Statement.{statement}
 use Rattle.pointer.proofs.read.Tie as tie

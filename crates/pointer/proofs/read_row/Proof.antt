@@ -4,7 +4,7 @@ use lib.ListN.{take}
 use borrow.Author.Needs.{needs}
 use native.Mathlib.Omega.{arith}
 use Rattle.bits.specs.Bits.{at, bytes}
-use Rattle.pointer.specs.Pointer.{shown}
+use Rattle.pointercalls.specs.Pointer.{shown}
 use Rattle.pointer.proofs.RowLaws.{read-judged, read-shown}
 use Rattle.pointer.proofs.read_row.Statement.{statement}
 use Rattle.pointer.proofs.read_row.Tie as tie

@@ -5,7 +5,7 @@ use lib.Dec.{eqb}
 use lib.ListN.{getD}
 use native.Mathlib.Omega.{arith}
 use Rattle.bits.specs.Bits.{has}
-use Rattle.pointer.specs.Pointer.{replacement}
+use Rattle.pointercalls.specs.Pointer.{replacement}
 use Rattle.pointer.proofs.CellLaws.{Patching, patch-start, patch-more, patch-done}
 use Rattle.pointer.proofs.cells.patch.Statement.{statement}
 use Rattle.pointer.proofs.cells.patch.Tie as tie

@@ -4,7 +4,7 @@ use mathlib.Core.Path.{_≡_, sym, _∙_}
 use lib.ListN.{getD}
 use borrow.Author.Count.{below-more}
 use native.Mathlib.Omega.{arith}
-use Rattle.pointer.specs.Pointer.{idle}
+use Rattle.pointercalls.specs.Pointer.{idle}
 use Rattle.pointer.proofs.DecodeLaws.{formed-not, formed-all}
 use Rattle.pointer.proofs.decode.formed.Statement.{statement}
 use Rattle.pointer.proofs.decode.formed.Tie as tie

@@ -5,7 +5,7 @@ use lib.ListN.{length, take, length-set}
 use native.Mathlib.Omega.{arith}
 use Rattle.bits.specs.Bits.{list}
 use Rattle.bits.proofs.BoundLaws.{list-more}
-use Rattle.pointer.specs.Pointer.{entry}
+use Rattle.pointercalls.specs.Pointer.{entry}
 use Rattle.pointer.proofs.decode.load.Statement.{statement}
 use Rattle.pointer.proofs.decode.load.Tie as tie
 

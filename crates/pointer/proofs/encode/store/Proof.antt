@@ -6,7 +6,7 @@ use lib.ListN.{length, take, length-set}
 use borrow.Author.Needs.{needs}
 use native.Mathlib.Omega.{arith}
 use Rattle.bits.specs.Bits.{list, words, bytes}
-use Rattle.pointer.specs.Pointer.{size, renewed, metadataBit}
+use Rattle.pointercalls.specs.Pointer.{size, renewed, metadataBit}
 use Rattle.pointer.proofs.EncodeLaws.{store-more, store-done}
 use Rattle.pointer.proofs.encode.store.Statement.{statement}
 use Rattle.pointer.proofs.encode.store.Tie as tie

@@ -13,7 +13,7 @@ use Rattle.bits.specs.Bits.{num, some, sum, has, at}
 use Rattle.bits.proofs.TestLaws.{clash, true-or-false, and-in}
 use Rattle.bits.proofs.BoundLaws.{some-in, sum-num-le, length-list, getD-list}
 use Rattle.bits.proofs.BitLaws.{has-word, word-lt, is-word, has-ones}
-use Rattle.pointer.specs.Pointer.{entry, active, unary, idle, formed, held}
+use Rattle.pointercalls.specs.Pointer.{entry, active, unary, idle, formed, held}
 
 pub has-entry : (m : List ℕ) (e k : ℕ) → k < 10 → has (entry m e) k ≡ at m (1 + 10 * e + k)
 unfolding entry

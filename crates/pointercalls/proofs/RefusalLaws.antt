@@ -10,10 +10,10 @@ use lib.ListN.{length}
 use Rattle.bits.specs.Lowest.{Lowest}
 use Rattle.bits.proofs.TestLaws.{clash, leb-iff, ltb-iff, eqb-iff, iff-stable, not-iff, and-iff}
 use Rattle.bits.proofs.LowestLaws.{From, lowest-is, test-first, from-none, from-first}
-use Rattle.pointer.specs.Pointer.{size, spare, active, formed, held, repeats, orElse, measured, verdict, readNumber, needed, writeJudged, writeNumber}
-use Rattle.pointer.specs.Refusals.{InRange, Fewest, ReadLengths, WriteLengths, Spare, WellFormed, NamedTwice, NoneLeft, Refused, outOfRange, wrongLength, spareBit, notFormed, samePointer, noEntry, ReadRefused, WriteRefused}
-use Rattle.pointer.proofs.FormedLaws.{spare-iff, formed-iff}
-use Rattle.pointer.proofs.ServedLaws.{twice-iff, none-left-iff}
+use Rattle.pointercalls.specs.Pointer.{size, spare, active, formed, held, repeats, orElse, measured, verdict, readNumber, needed, writeJudged, writeNumber}
+use Rattle.pointercalls.specs.Refusals.{InRange, Fewest, ReadLengths, WriteLengths, Spare, WellFormed, NamedTwice, NoneLeft, Refused, outOfRange, wrongLength, spareBit, notFormed, samePointer, noEntry, ReadRefused, WriteRefused}
+use Rattle.pointercalls.proofs.FormedLaws.{spare-iff, formed-iff}
+use Rattle.pointercalls.proofs.ServedLaws.{twice-iff, none-left-iff}
 
 -- the length of the metadata is the fewest bytes that hold it
 size-iff : (n l : ℕ) → (l ≡ size n) ↔ Fewest n l

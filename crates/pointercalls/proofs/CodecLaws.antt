@@ -14,8 +14,8 @@ use Rattle.bits.proofs.TestLaws.{true-or-false, lt-or-le, eqb-same, clash, same
 use Rattle.bits.proofs.BoundLaws.{some-none, sum-ext, sum-below, list-getD, some-in, some-out}
 use Rattle.bits.proofs.BitLaws.{has-zero, has-ext, some-has}
 use Rattle.bits.proofs.ByteLaws.{at-bytes, length-bytes, is-bytes, at-past}
-use Rattle.pointer.specs.Pointer.{size, entry, spare, active, unary, idle, formed, held, repeats, slot, metadataBit, encode, verdict}
-use Rattle.pointer.proofs.MetadataLaws.{has-entry, entry-lt, has-unary, idle-lt, idle-last, idle-other, active-full, active-unary, active-part, length-held, getD-held, formed-idle}
+use Rattle.pointercalls.specs.Pointer.{size, entry, spare, active, unary, idle, formed, held, repeats, slot, metadataBit, encode, verdict}
+use Rattle.pointercalls.proofs.MetadataLaws.{has-entry, entry-lt, has-unary, idle-lt, idle-last, idle-other, active-full, active-unary, active-part, length-held, getD-held, formed-idle}
 
 -- ---- the spare bits are one entry more, whose other bits lie past the end
 

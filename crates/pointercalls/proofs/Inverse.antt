@@ -10,9 +10,9 @@ use lib.ListN.{length, replicate, length-replicate}
 use Rattle.bits.specs.Bits.{has, word, Below}
 use Rattle.bits.proofs.BitLaws.{has-zero}
 use Rattle.bits.proofs.ByteLaws.{getD-zeros, at-zeros, is-bytes}
-use Rattle.pointer.specs.Pointer.{size, active, unary, idle, held, repeats, metadataBit, encode, verdict}
-use Rattle.pointer.proofs.CodecLaws.{Fits, slot-idle, active-encode, held-encode, verdict-encode, encode-held}
-use Rattle.pointer.proofs.NumberLaws.{verdict-zero}
+use Rattle.pointercalls.specs.Pointer.{size, active, unary, idle, held, repeats, metadataBit, encode, verdict}
+use Rattle.pointercalls.proofs.CodecLaws.{Fits, slot-idle, active-encode, held-encode, verdict-encode, encode-held}
+use Rattle.pointercalls.proofs.NumberLaws.{verdict-zero}
 
 -- what was encoded is decoded again, with nothing wrong in it
 pub decode-encode : (n : ℕ) (es : List ℕ) → Fits n es → repeats es ≡ false → (verdict n (encode n es) ≡ 0) × (held n (encode n es) ≡ es)

@@ -8,7 +8,7 @@ use borrow.Author.Tests.{leb-true, le-leb, lt-leb, ltb-false, eqb-true, eq-eqb}
 use lib.Dec.{eqb, ltb, leb}
 use lib.ListN.{length}
 use Rattle.bits.proofs.TestLaws.{and-in, and-left, and-right}
-use Rattle.pointer.specs.Pointer.{size, spare, active, formed, held, repeats, orElse, measured, verdict, readNumber, needed, writeJudged, writeNumber}
+use Rattle.pointercalls.specs.Pointer.{size, spare, active, formed, held, repeats, orElse, measured, verdict, readNumber, needed, writeJudged, writeNumber}
 
 or-else-zero : (j k : ℕ) → orElse j k ≡ 0 → (j ≡ 0) × (k ≡ 0)
 or-else-zero zero k h = (refl, h)

@@ -9,14 +9,14 @@ use lib.ListN.{length, getD}
 use Rattle.bits.specs.Bits.{at, bytes, Below}
 use Rattle.bits.specs.Lowest.{Lowest}
 use Rattle.bits.proofs.ByteLaws.{length-bytes, at-bytes, is-bytes}
-use Rattle.pointer.specs.Pointer.{pointer, replacement, entry, active, held, shown, unserved, after, activeAfter, stored, encode, readNumber, needed, writeNumber}
-use Rattle.pointer.specs.Refusals.{ReadRefused, WriteRefused}
-use Rattle.pointer.specs.Promises.{Read, Write}
-use Rattle.pointer.proofs.MetadataLaws.{length-held, getD-held}
-use Rattle.pointer.proofs.CodecLaws.{Fits, length-encode, entry-encode, active-encode, held-encode, verdict-encode}
-use Rattle.pointer.proofs.NumberLaws.{Accepted, read-ok, wanted-long, write-zero}
-use Rattle.pointer.proofs.RefusalLaws.{read-lowest, write-lowest, full-exactly}
-use Rattle.pointer.proofs.AfterLaws.{length-after, after-below, after-replacement, after-old, after-serves, after-rises, after-differs, after-shows}
+use Rattle.pointercalls.specs.Pointer.{pointer, replacement, entry, active, held, shown, unserved, after, activeAfter, stored, encode, readNumber, needed, writeNumber}
+use Rattle.pointercalls.specs.Refusals.{ReadRefused, WriteRefused}
+use Rattle.pointercalls.specs.Promises.{Read, Write}
+use Rattle.pointercalls.proofs.MetadataLaws.{length-held, getD-held}
+use Rattle.pointercalls.proofs.CodecLaws.{Fits, length-encode, entry-encode, active-encode, held-encode, verdict-encode}
+use Rattle.pointercalls.proofs.NumberLaws.{Accepted, read-ok, wanted-long, write-zero}
+use Rattle.pointercalls.proofs.RefusalLaws.{read-lowest, write-lowest, full-exactly}
+use Rattle.pointercalls.proofs.AfterLaws.{length-after, after-below, after-replacement, after-old, after-serves, after-rises, after-differs, after-shows}
 
 -- ---- a read
 

@@ -8,10 +8,10 @@ use mathlib.Core.Logic.{_↔_, _≢_}
 use lib.ListN.{length}
 use Rattle.bits.specs.Bits.{at, bytes}
 use Rattle.bits.specs.Lowest.{Lowest}
-use Rattle.pointer.specs.Pointer.{pointer, replacement, entry, active, held, shown, unserved, after, activeAfter, stored, encode, readNumber, needed, writeNumber}
-use Rattle.pointer.specs.Refusals.{ReadRefused, WriteRefused}
-use Rattle.pointer.specs.declared.ReadAnswer.{ReadAnswer}
-use Rattle.pointer.specs.declared.WriteAnswer.{WriteAnswer}
+use Rattle.pointercalls.specs.Pointer.{pointer, replacement, entry, active, held, shown, unserved, after, activeAfter, stored, encode, readNumber, needed, writeNumber}
+use Rattle.pointercalls.specs.Refusals.{ReadRefused, WriteRefused}
+use Rattle.pointercalls.specs.declared.ReadAnswer.{ReadAnswer}
+use Rattle.pointercalls.specs.declared.WriteAnswer.{WriteAnswer}
 
 pub record Read (n : ℕ) (cells metadata out : List ℕ) (answer : ReadAnswer) (out′ : List ℕ) : Type 0 where
   -- the number, computed

@@ -5,7 +5,7 @@ use mathlib.Core.List.{List, [], _∷_, _++_}
 use Prim.Native.Nat.{ℕ}
 use lib.ListN.{replicate}
 use Rattle.bits.specs.Bits.{some, sum, list, has, word, words, at, bytes}
-use Rattle.pointer.specs.Pointer.{entryOf, entry, spare, active, unary, idle, formed, held, names, repeats, unserved, positions, renewed, after, activeAfter, slot, metadataBit, encode, measured, verdict, readNumber, needed, writeJudged, writeNumber}
+use Rattle.pointercalls.specs.Pointer.{entryOf, entry, spare, active, unary, idle, formed, held, names, repeats, unserved, positions, renewed, after, activeAfter, slot, metadataBit, encode, measured, verdict, readNumber, needed, writeJudged, writeNumber}
 
 -- 64 bytes with bit 3 set, and with bits 3 and 300
 one : List ℕ

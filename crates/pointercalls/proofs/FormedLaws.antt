@@ -14,9 +14,9 @@ use Rattle.bits.proofs.TestLaws.{clash, true-or-false, lt-or-le, eqb-same, leb-
 use Rattle.bits.proofs.BoundLaws.{some-none, some-iff, sum-ext, sum-below}
 use Rattle.bits.proofs.BitLaws.{has-zero, has-ext}
 use Rattle.bits.proofs.ByteLaws.{at-past}
-use Rattle.pointer.specs.Pointer.{size, entry, spare, active, idle, formed}
-use Rattle.pointer.specs.Refusals.{InRange, Spare, Partly, Active, WellFormed}
-use Rattle.pointer.proofs.MetadataLaws.{has-entry, entry-lt, has-unary, idle-lt, idle-last, idle-other, active-full, active-unary, active-part, formed-idle}
+use Rattle.pointercalls.specs.Pointer.{size, entry, spare, active, idle, formed}
+use Rattle.pointercalls.specs.Refusals.{InRange, Spare, Partly, Active, WellFormed}
+use Rattle.pointercalls.proofs.MetadataLaws.{has-entry, entry-lt, has-unary, idle-lt, idle-last, idle-other, active-full, active-unary, active-part, formed-idle}
 
 -- ---- spare bits
 

@@ -10,12 +10,12 @@ use Rattle.bits.specs.Bits.{num, sum, has, at}
 use Rattle.bits.proofs.TestLaws.{not-iff, and-iff, xor-iff}
 use Rattle.bits.proofs.BoundLaws.{sum-rising}
 use Rattle.bits.proofs.BitLaws.{has-low, has-ext}
-use Rattle.pointer.specs.Pointer.{pointer, entry, active, held, names, repeats, unserved, positions, needed}
-use Rattle.pointer.specs.Refusals.{InRange, WellFormed, Names, NamedTwice, Unserved, NoneLeft}
-use Rattle.pointer.proofs.EntryLaws.{Twice, names-iff, repeats-iff}
-use Rattle.pointer.proofs.MetadataLaws.{has-entry, length-held, getD-held}
-use Rattle.pointer.proofs.PositionLaws.{length-positions, rising}
-use Rattle.pointer.proofs.FormedLaws.{active-is, active-said}
+use Rattle.pointercalls.specs.Pointer.{pointer, entry, active, held, names, repeats, unserved, positions, needed}
+use Rattle.pointercalls.specs.Refusals.{InRange, WellFormed, Names, NamedTwice, Unserved, NoneLeft}
+use Rattle.pointercalls.proofs.EntryLaws.{Twice, names-iff, repeats-iff}
+use Rattle.pointercalls.proofs.MetadataLaws.{has-entry, length-held, getD-held}
+use Rattle.pointercalls.proofs.PositionLaws.{length-positions, rising}
+use Rattle.pointercalls.proofs.FormedLaws.{active-is, active-said}
 
 -- ---- the pointer of an entry, bit by bit
 

@@ -10,11 +10,11 @@ use lib.ListN.{length}
 use Rattle.bits.specs.Bits.{num, at, bytes}
 use Rattle.bits.proofs.BoundLaws.{sum-ext}
 use Rattle.bits.proofs.ByteLaws.{bytes-ext}
-use Rattle.pointer.specs.Pointer.{held, names, unserved, renewed, after, activeAfter, stored, encode, readNumber, needed, writeJudged, writeNumber}
-use Rattle.pointer.specs.Promises.{Read, Write}
-use Rattle.pointer.specs.declared.ReadAnswer.{ReadAnswer}
-use Rattle.pointer.specs.declared.WriteAnswer.{WriteAnswer}
-use Rattle.pointer.proofs.PositionLaws.{positions-ext}
+use Rattle.pointercalls.specs.Pointer.{held, names, unserved, renewed, after, activeAfter, stored, encode, readNumber, needed, writeJudged, writeNumber}
+use Rattle.pointercalls.specs.Promises.{Read, Write}
+use Rattle.pointercalls.specs.declared.ReadAnswer.{ReadAnswer}
+use Rattle.pointercalls.specs.declared.WriteAnswer.{WriteAnswer}
+use Rattle.pointercalls.proofs.PositionLaws.{positions-ext}
 
 pub read-unique : (n : ℕ) (cells m out : List ℕ) (a b : ReadAnswer) (o p : List ℕ) → Read n cells m out a o → Read n cells m out b p → (a ≡ b) × (o ≡ p)
 read-unique n cells m out a b o p r s = (λ i. record { number = number i }, go (ℕ-discrete (a .number) 0))

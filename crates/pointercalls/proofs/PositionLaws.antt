@@ -12,8 +12,8 @@ use lib.ListN.{length, getD, length-append, List·getD-append}
 use lib.Seq.{getD-at}
 use Rattle.bits.specs.Bits.{num, sum}
 use Rattle.bits.proofs.TestLaws.{lt-or-le}
-use Rattle.pointer.specs.Pointer.{pointer, names, repeats, positions}
-use Rattle.pointer.proofs.EntryLaws.{names-append, names-snoc, repeats-snoc}
+use Rattle.pointercalls.specs.Pointer.{pointer, names, repeats, positions}
+use Rattle.pointercalls.proofs.EntryLaws.{names-append, names-snoc, repeats-snoc}
 
 -- the elements of ps are below n and pass f, and each is below the next
 pub record Rising (f : ℕ → Bool) (n : ℕ) (ps : List ℕ) : Type 0 where

@@ -10,7 +10,7 @@ use lib.Dec.{eqb}
 use lib.ListN.{length, getD}
 use Rattle.bits.specs.Bits.{num, has, at}
 use Rattle.bits.proofs.TestLaws.{clash, eqb-iff, or-iff, same-test, num-lt, eqb-num}
-use Rattle.pointer.specs.Pointer.{pointer, replacement, names, repeats, shown, renewed}
+use Rattle.pointercalls.specs.Pointer.{pointer, replacement, names, repeats, shown, renewed}
 
 -- ---- what the tests test
 

@@ -11,9 +11,9 @@ use lib.Seq.{getD-append-add}
 use Rattle.bits.specs.Bits.{at, Below}
 use Rattle.bits.proofs.TestLaws.{and-right}
 use Rattle.bits.proofs.ByteLaws.{below-all}
-use Rattle.pointer.specs.Pointer.{pointer, replacement, names, repeats, shown, unserved, positions, renewed, after, stored, needed}
-use Rattle.pointer.proofs.EntryLaws.{names-append, renewed-lt, renewed-pointer, renewed-replacement, getD-renewed, repeats-renewed, shown-renewed}
-use Rattle.pointer.proofs.PositionLaws.{Rising, length-positions, names-positions, rising, repeats-positions}
+use Rattle.pointercalls.specs.Pointer.{pointer, replacement, names, repeats, shown, unserved, positions, renewed, after, stored, needed}
+use Rattle.pointercalls.proofs.EntryLaws.{names-append, renewed-lt, renewed-pointer, renewed-replacement, getD-renewed, repeats-renewed, shown-renewed}
+use Rattle.pointercalls.proofs.PositionLaws.{Rising, length-positions, names-positions, rising, repeats-positions}
 
 -- a cell that holds another bit than the wanted one is stuck and wrong
 wrong-served : (named stuck want value : Bool) → cond (named || (stuck && xor want value && not named)) want (cond stuck value want) ≡ want

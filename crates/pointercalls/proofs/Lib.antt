@@ -1,0 +1,13 @@
+pub mod EntryLaws
+pub mod PositionLaws
+pub mod MetadataLaws
+pub mod FormedLaws
+pub mod ServedLaws
+pub mod RefusalLaws
+pub mod CodecLaws
+pub mod NumberLaws
+pub mod Inverse
+pub mod AfterLaws
+pub mod Demands
+pub mod Unique
+pub mod Examples
