@@ -49,6 +49,10 @@ pub or-out : (a b : Bool) → a || b ≡ true → (a ≡ true) ⊎ (b ≡ true)
 or-out true b h = inl refl
 or-out false b h = inr h
 
+pub or-neither : (a b : Bool) → a || b ≡ false → (a ≡ false) × (b ≡ false)
+or-neither true b h = clash refl h
+or-neither false b h = (refl, h)
+
 -- ---- exclusive or
 
 pub xor-false : (b : Bool) → xor false b ≡ b

@@ -19,11 +19,12 @@ use Rattle.bits.proofs.BoundLaws.{some-in, some-none, some-ext, sum-ext, getD-l
 use Rattle.bits.proofs.BitLaws.{has-low, has-ext, one-shl, ones-bits}
 use Rattle.bits.proofs.ByteLaws.{at-zeros}
 use Rattle.bits.proofs.DigitLaws.{window-bit}
-use Rattle.pointercalls.specs.Pointer.{size, pointer, entry, spare, active, unary, idle, formed, held, names, repeats, verdict}
+use Rattle.pointercalls.specs.Pointer.{size, pointer, entry, spare, active, unary, idle, formed, held, names, repeats}
 use Rattle.pointer.specs.Steps.{Marked, Decoded}
 use Rattle.pointercalls.proofs.EntryLaws.{names-snoc, repeats-snoc}
 use Rattle.pointercalls.proofs.MetadataLaws.{has-entry, entry-lt, unary-ones, active-le}
 use Rattle.pointercalls.proofs.CodecLaws.{spare-entry}
+use Rattle.pointercalls.proofs.NumberLaws.{verdict-tests}
 use Rattle.pointer.proofs.OctetLaws.{at-changed}
 
 -- ---- an entry
@@ -87,10 +88,10 @@ module _ (es : List ℕ) where
   mark-start = record { long = length-replicate {A = ℕ} 64 0; twice = refl; bits = at-zeros 64 }
 
   pub mark-more : (i v : ℕ) (t repeated : Bool) (served : List ℕ) → i < length es → Marking es i repeated served
-      → t ≡ repeated || has (getD served (pointer (getD es i 0) / 8) 0) (pointer (getD es i 0) % 8)
+      → t ≡ repeated || eqb (getD served (pointer (getD es i 0) / 8) 0 / 2 ^ (pointer (getD es i 0) % 8) % 2) 1
       → ((j : ℕ) → has v j ≡ cond (eqb (pointer (getD es i 0) % 8) j) true (has (getD served (pointer (getD es i 0) / 8) 0) j))
       → Marking es (i + 1) t (set served (pointer (getD es i 0) / 8) v)
-  unfolding at
+  unfolding at has
   mark-more i v t repeated served l p r h =
       let e : ℕ = getD es i 0 in
       let k : length served ≡ 64 = p .long in
@@ -133,13 +134,13 @@ module _ (n : ℕ) (m es : List ℕ) (loaded : take (n + 1) es ≡ list (n + 1) 
 
   pub decoded : (a k : ℕ) (ok repeated : Bool) (served : List ℕ) → 1 ≤ n → length m ≡ size n → a ≡ active n m → ok ≡ not (some n (stray n a es))
       → Marked (take a es) repeated served → k ≡ cond (not (eqb (getD es n 0) 0)) 3 (cond ok (cond repeated 5 0) 4) → Decoded n m k a es served
-  unfolding verdict held
+  unfolding held
   decoded a k ok repeated served l s c o p h =
       let few : a ≤ n = omega (arith, active-le n m l) in
       let clean : not (eqb (getD es n 0) 0) ≡ spare n m = ap (λ x. not (eqb x 0)) (loaded-at n (omega arith)) ∙ sym (spare-entry n m s) in
       let differ : repeated ≡ repeats (held n m) = p .twice ∙ ap repeats (loaded-take a few ∙ ap (λ x. list x (entry m)) c) in
       record {
-        judged = h ∙ rw (clean, o ∙ well a c, differ);
+        judged = h ∙ verdict-tests n m _ _ _ clean (o ∙ well a c) differ;
         count = c;
         few = few;
         loaded = loaded-take a few;

@@ -2,7 +2,7 @@
 use super::octets::byte;
 use super::octets::with_bit;
 ghost use mathlib.Core.Path.{_≡_};
-ghost use mathlib.Core.Bool.{cond, not, _&&_, _||_};
+ghost use mathlib.Core.Bool.{cond, not, _&&_};
 ghost use Prim.Native.Nat.{_+_, _-_, _≤_, _<_};
 ghost use lib.Dec.{eqb, leb};
 ghost use lib.ListN.{length, getD, take};
@@ -110,19 +110,11 @@ fn marked(es: [usize; 11], a: usize) -> Marks
     while i < a {
         let p = es[i] % 512;
         let b = served[p / 8];
-        repeated = again(repeated, b, p % 8);
+        repeated = repeated | ((b >> (p % 8)) % 2 == 1);
         served[p / 8] = with_bit(b, p % 8, true);
         i += 1;
     }
     Marks { repeated, served }
-}
-
-// A position was named twice before, or bit k of b says that this one is named already.
-fn again(before: bool, b: u8, k: usize) -> bool
-    requires { ⌜ k < 8 ⌝ }
-    ensures { λ r. ⌜ r ≡ before || has b k ⌝ }
-{
-    if before { true } else { (b >> k) % 2 == 1 }
 }
 
 fn lowest(spare: bool, formed: bool, repeats: bool) -> usize

@@ -8,9 +8,7 @@ mod cells; // the 64 bytes of a row
 use pointercalls::ReadAnswer;
 use pointercalls::WriteAnswer;
 ghost use mathlib.Core.Path.{_≡_};
-ghost use mathlib.Core.Bool.{_&&_};
 ghost use Prim.Native.Nat.{_≤_};
-ghost use lib.Dec.{eqb};
 ghost use lib.ListN.{length};
 ghost use Rattle.pointercalls.specs.Pointer.{measured, size};
 ghost use Rattle.pointercalls.specs.Promises.{Read, Write};
@@ -20,8 +18,7 @@ ghost use Rattle.pointer.specs.Steps.{Sized};
 pub fn read(n: usize, cells: &[u8], metadata: &[u8], out: &mut [u8]) -> ReadAnswer
     ensures { λ r. ⌜ Read n (now (cells .entry)) (now (metadata .entry)) (now (out .entry)) r (now (out .exit)) ⌝ }
 {
-    // Of the four buffers of 64 bytes a read is lent two.
-    let k = measured(n, fixed(64, 64, cells.len(), out.len()), metadata.len());
+    let k = measured(n, (cells.len() == 64) & (out.len() == 64), metadata.len());
     if 0 < k {
         return ReadAnswer { number: k };
     }
@@ -41,7 +38,7 @@ pub fn write(
 {
     let k = measured(
         n,
-        fixed(data.len(), mask.len(), values.len(), cells.len()),
+        (data.len() == 64) & (mask.len() == 64) & (values.len() == 64) & (cells.len() == 64),
         metadata.len(),
     );
     if 0 < k {
@@ -54,22 +51,6 @@ pub fn write(
     write_row(n, data, mask, values, cells, metadata)
 }
 
-// The buffers of 64 bytes are that long.
-fn fixed(data: usize, mask: usize, values: usize, cells: usize) -> bool
-    ensures { λ r. ⌜ r ≡ (eqb «data» 64 && eqb mask 64 && eqb values 64 && eqb cells 64) ⌝ }
-{
-    if data != 64 {
-        return false;
-    }
-    if mask != 64 {
-        return false;
-    }
-    if values != 64 {
-        return false;
-    }
-    cells == 64
-}
-
 // The number of entries is judged before the metadata's length is computed from it.
 fn measured(n: usize, fixed: bool, metadata: usize) -> usize
     ensures { λ r. ⌜ r ≡ measured n fixed metadata ⌝ }
@@ -80,10 +61,7 @@ fn measured(n: usize, fixed: bool, metadata: usize) -> usize
     if 10 < n {
         return 1;
     }
-    if !fixed {
-        return 2;
-    }
-    if metadata == (1 + 10 * n + 7) / 8 {
+    if fixed & (metadata == (1 + 10 * n + 7) / 8) {
         0
     } else {
         2

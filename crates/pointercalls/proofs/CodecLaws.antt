@@ -1,55 +1,41 @@
 -- What is found in metadata that was encoded, and what is encoded of metadata that was found. Assumes nothing.
 use mathlib.Core.Path.{_≡_, refl, sym, ap, _∙_}
-use mathlib.Core.Bool.{true, false, not, _&&_, Bool}
+use mathlib.Core.Bool.{true, false, not, _&&_}
 use mathlib.Core.List.{List}
 use mathlib.Core.Logic.{⊎-elim}
 use Prim.Native.Nat.{ℕ, zero, suc, _+_, _-_, _*_, _/_, _%_, _≤_, _<_}
 use native.Mathlib.Nat.{eq-or-lt-of-le}
 use native.Mathlib.Omega.{arith}
-use borrow.Author.Tests.{le-leb, lt-leb, lt-ltb, le-ltb, eqb-true, eq-eqb, ne-eqb, not-false, leb-true, eqb-false, not-true}
+use borrow.Author.Tests.{le-leb, lt-leb, lt-ltb, le-ltb, eqb-true, eq-eqb, ne-eqb, not-false, eqb-false, not-true}
 use lib.Dec.{eqb, ltb, leb}
 use lib.ListN.{length, getD}
-use Rattle.bits.specs.Bits.{num, has, at, Below, some}
-use Rattle.bits.proofs.TestLaws.{true-or-false, lt-or-le, eqb-same, clash, same-test, and-in, and-left, and-right}
-use Rattle.bits.proofs.BoundLaws.{some-none, sum-ext, sum-below, list-getD, some-in, some-out}
+use Rattle.bits.specs.Bits.{num, has, at, Below}
+use Rattle.bits.proofs.TestLaws.{true-or-false, lt-or-le, eqb-same, clash, same-test}
+use Rattle.bits.proofs.BoundLaws.{some-none, sum-ext, sum-below, list-getD, some-out}
 use Rattle.bits.proofs.BitLaws.{has-zero, has-ext, some-has}
 use Rattle.bits.proofs.ByteLaws.{at-bytes, length-bytes, is-bytes, at-past}
 use Rattle.pointercalls.specs.Pointer.{size, entry, spare, active, unary, idle, formed, held, repeats, slot, metadataBit, encode, verdict}
+use Rattle.pointercalls.specs.Refusals.{Spare}
 use Rattle.pointercalls.proofs.MetadataLaws.{has-entry, entry-lt, has-unary, idle-lt, idle-last, idle-other, active-full, active-unary, active-part, length-held, getD-held, formed-idle}
+use Rattle.pointercalls.proofs.FormedLaws.{spare-iff}
 
 -- ---- the spare bits are one entry more, whose other bits lie past the end
 
 pub spare-entry : (n : ℕ) (m : List ℕ) → length m ≡ size n → spare n m ≡ not (eqb (entry m n) 0)
-unfolding spare
-spare-entry n m l = same-test (spare n m) (not (eqb (entry m n) 0)) there back
+spare-entry n m l = same-test (spare n m) (not (eqb (entry m n) 0)) (λ h. there (spare-iff n m l .0 h)) back
   where
-    test : ℕ → Bool
-    test p = leb (1 + 10 * n) p && at m p
-
-    set : (p : ℕ) → p < 8 * size n → test p ≡ true → not (eqb (entry m n) 0) ≡ true
-    set p k t =
-        let g : 1 + 10 * n ≤ p = leb-true (1 + 10 * n) p (and-left (leb (1 + 10 * n) p) (at m p) t) in
+    there : Spare n m → not (eqb (entry m n) 0) ≡ true
+    there (p, g, h) =
+        let k : p < 8 * size n = ⊎-elim (λ k. k) (λ k. clash h (at-past m p (omega arith))) (lt-or-le p (8 * size n)) in
         let j : p - (1 + 10 * n) < 10 = omega arith in
         let e : 1 + 10 * n + (p - (1 + 10 * n)) ≡ p = omega arith in
-        let b : has (entry m n) (p - (1 + 10 * n)) ≡ true =
-        has-entry m n (p - (1 + 10 * n)) j ∙ ap (at m) e ∙ and-right (leb (1 + 10 * n) p) (at m p) t in
+        let b : has (entry m n) (p - (1 + 10 * n)) ≡ true = has-entry m n (p - (1 + 10 * n)) j ∙ ap (at m) e ∙ h in
         ap not (ne-eqb (entry m n) 0 (λ z. clash b (ap (λ x. has x (p - (1 + 10 * n))) z ∙ has-zero (p - (1 + 10 * n)))))
 
-    there : some (8 * size n) test ≡ true → not (eqb (entry m n) 0) ≡ true
-    there h = let (p, k, t) = some-out (8 * size n) test h in set p k t
-
-    found : (k : ℕ) → k < 10 → has (entry m n) k ≡ true → some (8 * size n) test ≡ true
-    found k q b =
-        let c : at m (1 + 10 * n + k) ≡ true = sym (has-entry m n k q) ∙ b in
-        ⊎-elim
-        (λ h. some-in (8 * size n) test (1 + 10 * n + k) h (and-in (le-leb (1 + 10 * n) (1 + 10 * n + k) (omega arith)) c))
-        (λ h. clash c (at-past m (1 + 10 * n + k) (omega arith)))
-        (lt-or-le (1 + 10 * n + k) (8 * size n))
-
-    back : not (eqb (entry m n) 0) ≡ true → some (8 * size n) test ≡ true
+    back : not (eqb (entry m n) 0) ≡ true → spare n m ≡ true
     back h =
         let (k, q, b) = some-out 10 (has (entry m n)) (some-has 10 (entry m n) (entry-lt m n) .1 (eqb-false (entry m n) 0 (not-true (eqb (entry m n) 0) h))) in
-        found k q b
+        spare-iff n m l .1 (1 + 10 * n + k, omega arith, sym (has-entry m n k q) ∙ b)
 
 -- ---- what stands in an entry's place
 
@@ -130,7 +116,7 @@ module _ (n : ℕ) (es : List ℕ) (s : Fits n es) where
           (at-encode p h ∙ ap (metadataBit n es) e ∙ metadata-bit n es n (p - (1 + 10 * n)) (omega arith)
           ∙ ap (λ x. has x (p - (1 + 10 * n))) z ∙ has-zero (p - (1 + 10 * n)))
 
-  formed-encode : formed n (encode n es) ≡ true
+  pub formed-encode : formed n (encode n es) ≡ true
   unfolding formed
   formed-encode = rw active-encode (ap not (some-none n (λ e. leb (length es) e && not (eqb (entry (encode n es) e) (idle n (length es) e))) right))
     where

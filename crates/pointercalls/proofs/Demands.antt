@@ -9,13 +9,15 @@ use lib.ListN.{length, getD}
 use Rattle.bits.specs.Bits.{at, bytes, Below}
 use Rattle.bits.specs.Lowest.{Lowest}
 use Rattle.bits.proofs.ByteLaws.{length-bytes, at-bytes, is-bytes}
-use Rattle.pointercalls.specs.Pointer.{pointer, replacement, entry, active, held, shown, unserved, after, activeAfter, stored, encode, readNumber, needed, writeNumber}
-use Rattle.pointercalls.specs.Refusals.{ReadRefused, WriteRefused}
+use Rattle.pointercalls.specs.Pointer.{pointer, replacement, entry, active, held, shown, after, activeAfter, stored, encode, readNumber, needed, writeNumber}
+use Rattle.pointercalls.specs.Refusals.{Active, Unserved, ReadRefused, WriteRefused}
 use Rattle.pointercalls.specs.Promises.{Read, Write}
 use Rattle.pointercalls.proofs.MetadataLaws.{length-held, getD-held}
-use Rattle.pointercalls.proofs.CodecLaws.{Fits, length-encode, entry-encode, active-encode, held-encode, verdict-encode}
-use Rattle.pointercalls.proofs.NumberLaws.{Accepted, read-ok, wanted-long, write-zero}
-use Rattle.pointercalls.proofs.RefusalLaws.{read-lowest, write-lowest, full-exactly}
+use Rattle.pointercalls.proofs.FormedLaws.{active-said, formed-iff}
+use Rattle.pointercalls.proofs.ServedLaws.{shown-cell, shown-entry, unserved-iff}
+use Rattle.pointercalls.proofs.CodecLaws.{Fits, length-encode, entry-encode, active-encode, formed-encode, held-encode, verdict-encode}
+use Rattle.pointercalls.proofs.NumberLaws.{Passed, Accepted, read-ok, read-passed, full-exactly, write-zero}
+use Rattle.pointercalls.proofs.RefusalLaws.{read-lowest, write-lowest}
 use Rattle.pointercalls.proofs.AfterLaws.{length-after, after-below, after-replacement, after-old, after-serves, after-rises, after-differs, after-shows}
 
 -- ---- a read
@@ -24,11 +26,21 @@ read-number : (n k : ℕ) (cells m out : List ℕ) → k ≡ readNumber n (lengt
 read-number n k cells m out e = subst (Lowest (ReadRefused n (length cells) m (length out))) (sym e) (read-lowest n (length cells) m (length out))
 
 pub read-refused : (n k : ℕ) (cells m out : List ℕ) → k ≡ readNumber n (length cells) m (length out) → k ≢ 0 → Read n cells m out (record { number = k }) out
-read-refused n k cells m out e h = record { number = e; lowest = read-number n k cells m out e; refused = λ _. refl; filled = λ z. absurd (h z) }
+read-refused n k cells m out e h = record { number = e; lowest = read-number n k cells m out e; refused = λ _. refl; filled = λ z. absurd (h z); shows = λ z. absurd (h z); replaces = λ z. absurd (h z) }
 
 pub read-accepted : (n : ℕ) (cells m out out′ : List ℕ) → 0 ≡ readNumber n (length cells) m (length out) → out′ ≡ bytes 64 (λ p. shown (held n m) p (at cells p))
     → Read n cells m out (record { number = 0 }) out′
-read-accepted n cells m out out′ e h = record { number = e; lowest = read-number n 0 cells m out e; refused = λ z. absurd (z refl); filled = λ _. h }
+read-accepted n cells m out out′ e h =
+    let p : Passed n m = read-passed n (length cells) m (length out) (sym e) in
+    let at-out : (q : ℕ) → q < 512 → at out′ q ≡ shown (held n m) q (at cells q) = λ q l. ap (λ bs. at bs q) h ∙ at-bytes 64 (λ p. shown (held n m) p (at cells p)) q l in
+    record {
+      number = e;
+      lowest = read-number n 0 cells m out e;
+      refused = λ z. absurd (z refl);
+      filled = λ _. h;
+      shows = λ _ a q s l u. at-out q l ∙ shown-cell n m (p .range) (p .forms) a q (at cells q) s l u;
+      replaces = λ _ a f q s l k u. at-out q k ∙ shown-entry n m (p .range) (p .forms) a f q (at cells q) (p .differs) s l k u;
+    }
 
 -- ---- a write
 
@@ -48,6 +60,7 @@ module _ (n : ℕ) (wanted mask values cells m : List ℕ) where
     full = full-exactly n wanted mask values (length cells) m k (write-number k e);
     sound = λ z. absurd (h z);
     stuck = λ z. absurd (h z);
+    counted = λ z. absurd (h z);
     noted = λ z. absurd (h z);
     kept = λ z. absurd (h z);
     adds = λ z. absurd (h z);
@@ -76,8 +89,8 @@ module _ (n : ℕ) (wanted mask values cells m : List ℕ) where
     fits : Fits n row
     unfolding row
     fits = record {
-      least = accepted .sizes .least;
-      most = accepted .sizes .most;
+      least = accepted .judged .range .0;
+      most = accepted .judged .range .1;
       few = omega (arith, length-row, accepted .few);
       small = after-below wanted mask values es;
     }
@@ -94,6 +107,10 @@ module _ (n : ℕ) (wanted mask values cells m : List ℕ) where
     unfolding exit
     counted = active-encode n row fits ∙ length-row
 
+    noted : Active n exit (activeAfter n wanted mask values m)
+    unfolding exit
+    noted = subst (Active n exit) (counted ∙ sym adds) (active-said n exit (accepted .judged .range) (formed-iff n exit (accepted .judged .range) .0 (formed-encode n row fits)))
+
     kept : (e : ℕ) → e < active n m → pointer (entry exit e) ≡ pointer (entry m e)
     unfolding row es
     kept e h =
@@ -103,9 +120,11 @@ module _ (n : ℕ) (wanted mask values cells m : List ℕ) where
     unfolding row es
     renews e h = rw (row-entry e h) (after-replacement wanted mask values es e (rw length-held h))
 
-    serves : (e : ℕ) → active n m ≤ e → e < active n m + needed wanted mask values (held n m) → unserved wanted mask values (held n m) (pointer (entry exit e)) ≡ true
+    serves : (e : ℕ) → active n m ≤ e → e < active n m + needed wanted mask values (held n m) → Unserved wanted mask values m (active n m) (pointer (entry exit e))
     unfolding row es
-    serves e k h = rw (row-entry e h) (after-serves wanted mask values es e (rw length-held k) (rw length-held h))
+    serves e k h =
+        unserved-iff n m (accepted .judged .range) (accepted .judged .forms) wanted mask values (pointer (entry exit e)) (omega arith) .0
+        (rw (row-entry e h) (after-serves wanted mask values es e (rw length-held k) (rw length-held h)))
 
     rises : (e f : ℕ) → active n m ≤ e → e < f → f < active n m + needed wanted mask values (held n m) → pointer (entry exit e) < pointer (entry exit f)
     unfolding row es
@@ -121,10 +140,10 @@ module _ (n : ℕ) (wanted mask values cells m : List ℕ) where
     reads b out l =
         read-accepted n (bytes 64 (stored wanted mask values)) (encode n row) out wanted
         (sym
-        (read-ok n (length (bytes 64 (stored wanted mask values))) (encode n row) (length out) (accepted .sizes .least) (accepted .sizes .most)
+        (read-ok n (length (bytes 64 (stored wanted mask values))) (encode n row) (length out) (accepted .judged .range .0) (accepted .judged .range .1)
         (length-bytes 64 (stored wanted mask values)) (length-encode n row) l
-        ∙ verdict-encode n row fits (after-differs wanted mask values es (accepted .clean .differs))))
-        (is-bytes 64 (λ p. shown (held n (encode n row)) p (at (bytes 64 (stored wanted mask values)) p)) wanted (wanted-long n wanted mask values (length cells) m accepted) b
+        ∙ verdict-encode n row fits (after-differs wanted mask values es (accepted .judged .differs))))
+        (is-bytes 64 (λ p. shown (held n (encode n row)) p (at (bytes 64 (stored wanted mask values)) p)) wanted (accepted .long) b
         (λ p h. sym (rw (held-encode n row fits, at-bytes 64 (stored wanted mask values) p h) (after-shows wanted mask values es p h))))
 
     exact : 0 ≡ writeNumber n wanted mask values (length cells) m → Below 256 wanted
@@ -141,7 +160,8 @@ module _ (n : ℕ) (wanted mask values cells m : List ℕ) where
       full = full-exactly n wanted mask values (length cells) m 0 (write-number 0 e);
       sound = λ _. held-at false;
       stuck = λ _. held-at true;
-      noted = λ _. adds ∙ sym counted;
+      counted = λ _. active-said n m (accepted .judged .range) (accepted .judged .forms);
+      noted = λ _. noted;
       adds = λ _. adds;
       kept = λ _. kept;
       renews = λ _ e h. renews e (subst (λ x. e < x) adds h);

@@ -9,7 +9,7 @@ use borrow.Author.Tests.{eqb-true, eq-eqb}
 use lib.Dec.{eqb}
 use lib.ListN.{length, getD}
 use Rattle.bits.specs.Bits.{num, has, at}
-use Rattle.bits.proofs.TestLaws.{clash, eqb-iff, or-iff, same-test, num-lt, eqb-num}
+use Rattle.bits.proofs.TestLaws.{clash, eqb-iff, or-iff, same-test, num-lt, eqb-num, or-neither}
 use Rattle.pointercalls.specs.Pointer.{pointer, replacement, names, repeats, shown, renewed}
 
 -- ---- what the tests test
@@ -38,6 +38,25 @@ repeats-iff (e ∷ es) =
     back (i, zero, d, l, h) = absurd (omega arith)
     back (zero, suc j, d, l, h) = inl (j, omega arith, h)
     back (suc i, suc j, d, l, h) = inr (i, j, omega arith, omega arith, h)
+
+-- ---- what a position shows
+
+-- a position that none names shows its cell
+pub shown-unnamed : (es : List ℕ) (p : ℕ) (v : Bool) → names es p ≡ false → shown es p v ≡ v
+unfolding shown names
+shown-unnamed [] p v h = refl
+shown-unnamed (e ∷ es) p v h =
+    let (a, b) = or-neither (eqb (pointer e) p) (names es p) h in shown-unnamed es p (cond (eqb (pointer e) p) (replacement e) v) b ∙ ap (λ t. cond t (replacement e) v) a
+
+-- where no two name the same, a position that entry i names shows that entry's replacement bit
+pub shown-named : (es : List ℕ) (i p : ℕ) (v : Bool) → repeats es ≡ false → i < length es → pointer (getD es i 0) ≡ p → shown es p v ≡ replacement (getD es i 0)
+unfolding shown repeats
+shown-named [] i p v d l h = absurd (omega arith)
+shown-named (e ∷ es) zero p v d l h =
+    let (a, b) = or-neither (names es (pointer e)) (repeats es) d in
+    shown-unnamed es p (cond (eqb (pointer e) p) (replacement e) v) (ap (names es) (sym h) ∙ a) ∙ ap (λ t. cond t (replacement e) v) (eq-eqb (pointer e) p h)
+shown-named (e ∷ es) (suc i) p v d l h =
+    let (a, b) = or-neither (names es (pointer e)) (repeats es) d in shown-named es i p (cond (eqb (pointer e) p) (replacement e) v) b (omega arith) h
 
 -- ---- one entry more, at the end
 

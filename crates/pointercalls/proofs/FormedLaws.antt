@@ -15,10 +15,14 @@ use Rattle.bits.proofs.BoundLaws.{some-none, some-iff, sum-ext, sum-below}
 use Rattle.bits.proofs.BitLaws.{has-zero, has-ext}
 use Rattle.bits.proofs.ByteLaws.{at-past}
 use Rattle.pointercalls.specs.Pointer.{size, entry, spare, active, idle, formed}
-use Rattle.pointercalls.specs.Refusals.{InRange, Spare, Partly, Active, WellFormed}
+use Rattle.pointercalls.specs.Refusals.{InRange, Fewest, Spare, Partly, Active, WellFormed}
 use Rattle.pointercalls.proofs.MetadataLaws.{has-entry, entry-lt, has-unary, idle-lt, idle-last, idle-other, active-full, active-unary, active-part, formed-idle}
 
--- ---- spare bits
+-- ---- the length and the spare bits
+
+-- the length of the metadata is the fewest bytes that hold it
+pub size-iff : (n l : ℕ) → (l ≡ size n) ↔ Fewest n l
+size-iff n l = (λ h. (omega arith, omega arith), λ (a, b). omega arith)
 
 pub spare-iff : (n : ℕ) (m : List ℕ) → length m ≡ size n → (spare n m ≡ true) ↔ Spare n m
 unfolding spare

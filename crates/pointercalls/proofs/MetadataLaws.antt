@@ -1,17 +1,17 @@
 -- Laws of metadata as it stands: its entries, the active ones, and its spare bits. Assumes nothing.
-use mathlib.Core.Path.{_≡_, refl, ap}
+use mathlib.Core.Path.{_≡_, ap}
 use mathlib.Core.Bool.{Bool, true, false, not, cond, _&&_}
 use mathlib.Core.List.{List}
 use mathlib.Core.Logic.{_≢_, ⊎-elim}
 use Prim.Native.Nat.{ℕ, _+_, _-_, _*_, _^_, _≤_, _<_}
 use native.Mathlib.Omega.{arith}
-use borrow.Author.Tests.{le-leb, eq-eqb, ne-eqb, eqb-true, not-true}
+use borrow.Author.Tests.{le-leb, eq-eqb, ne-eqb, not-true}
 use lib.Dec.{eqb, ltb, leb}
 use lib.ListN.{length, getD}
 use lib.Pow.{pow-mono, pow-pos}
-use Rattle.bits.specs.Bits.{num, some, sum, has, at}
-use Rattle.bits.proofs.TestLaws.{clash, true-or-false, and-in}
-use Rattle.bits.proofs.BoundLaws.{some-in, sum-num-le, length-list, getD-list}
+use Rattle.bits.specs.Bits.{num, sum, has, at}
+use Rattle.bits.proofs.TestLaws.{true-or-false, eqb-iff, iff-stable, clash, and-in}
+use Rattle.bits.proofs.BoundLaws.{none-below, sum-num-le, length-list, getD-list}
 use Rattle.bits.proofs.BitLaws.{has-word, word-lt, is-word, has-ones}
 use Rattle.pointercalls.specs.Pointer.{entry, active, unary, idle, formed, held}
 
@@ -83,11 +83,7 @@ getD-held n m e h = getD-list (active n m) (entry m) 0 e h
 -- an entry that is not active holds what it should
 pub formed-idle : (n : ℕ) (m : List ℕ) → formed n m ≡ true → (e : ℕ) → active n m ≤ e → e < n → entry m e ≡ idle n (active n m) e
 unfolding formed
-formed-idle n m h e k l = go (eqb (entry m e) (idle n (active n m) e)) refl
+formed-idle n m h e k l = equal _ _ _ (none-below n _ (not-true _ h) e l) (omega arith)
   where
-    test : ℕ → Bool
-    test e = leb (active n m) e && not (eqb (entry m e) (idle n (active n m) e))
-
-    go : (t : Bool) → eqb (entry m e) (idle n (active n m) e) ≡ t → entry m e ≡ idle n (active n m) e
-    go true q = eqb-true (entry m e) (idle n (active n m) e) q
-    go false q = clash (some-in n test e l (and-in (le-leb _ e (omega arith)) (ap not q))) (not-true (some n test) h)
+    equal : (x a b : ℕ) → leb x e && not (eqb a b) ≡ false → x ≤ e → a ≡ b
+    equal x a b q g = iff-stable _ (eqb-iff a b) (λ z. clash (and-in (le-leb x e g) (ap not (ne-eqb a b z))) q)

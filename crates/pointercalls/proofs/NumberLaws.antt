@@ -1,18 +1,21 @@
 -- Laws of the numbers that are answered: what a 0 tells. Assumes nothing.
-use mathlib.Core.Path.{_≡_, refl, sym}
+use mathlib.Core.Path.{subst, _≡_, refl, sym}
 use mathlib.Core.Bool.{Bool, true, false, cond, _&&_}
 use mathlib.Core.List.{List}
-use Prim.Native.Nat.{ℕ, zero, suc, _+_, _≤_, _<_}
+use mathlib.Core.Logic.{_↔_, ⊎-elim}
+use Prim.Native.Nat.{ℕ, _+_, _≤_, _<_}
 use native.Mathlib.Omega.{arith}
-use borrow.Author.Tests.{leb-true, le-leb, lt-leb, ltb-false, eqb-true, eq-eqb}
-use lib.Dec.{eqb, ltb, leb}
+use borrow.Author.Tests.{leb-true, le-leb, lt-leb, eqb-true, eq-eqb}
+use lib.Dec.{eqb, leb}
 use lib.ListN.{length}
-use Rattle.bits.proofs.TestLaws.{and-in, and-left, and-right}
-use Rattle.pointercalls.specs.Pointer.{size, spare, active, formed, held, repeats, orElse, measured, verdict, readNumber, needed, writeJudged, writeNumber}
-
-or-else-zero : (j k : ℕ) → orElse j k ≡ 0 → (j ≡ 0) × (k ≡ 0)
-or-else-zero zero k h = (refl, h)
-or-else-zero (suc j) k h = absurd (omega arith)
+use Rattle.bits.specs.Lowest.{Lowest}
+use Rattle.bits.proofs.TestLaws.{lt-or-le, and-in, and-left, and-right, eqb-iff, false-iff, iff-stable}
+use Rattle.bits.proofs.LowestLaws.{lowest-is}
+use Rattle.pointercalls.specs.Pointer.{size, spare, active, formed, held, repeats, measured, verdict, readNumber, needed, writeJudged, writeNumber}
+use Rattle.pointercalls.specs.Refusals.{InRange, WellFormed, outOfRange, wrongLength, notFormed, samePointer, noEntry, Refused, WriteRefused}
+use Rattle.pointercalls.proofs.FormedLaws.{formed-iff}
+use Rattle.pointercalls.proofs.ServedLaws.{twice-iff, none-left-iff}
+use Rattle.pointercalls.proofs.RefusalLaws.{range-iff, from-6, read-lowest, write-lowest}
 
 -- ---- n and the lengths
 
@@ -66,6 +69,10 @@ write-ok n wanted mask values cells m l h w k v c e = rw (w, k, v, c, measured-o
 
 -- ---- the metadata
 
+pub verdict-tests : (n : ℕ) (m : List ℕ) (a b c : Bool) → a ≡ spare n m → b ≡ formed n m → c ≡ repeats (held n m) → cond a 3 (cond b (cond c 5 0) 4) ≡ verdict n m
+unfolding verdict
+verdict-tests n m a b c p q r = rw (p, q, r)
+
 pub record Clean (n : ℕ) (m : List ℕ) : Type 0 where
   pub spares : spare n m ≡ false
   pub forms : formed n m ≡ true
@@ -81,35 +88,49 @@ verdict-zero n m h = let (a, b, c) = go (spare n m) (formed n m) (repeats (held 
     go false true false h = (refl, refl, refl)
     go false false c h = absurd (omega arith)
 
--- ---- a write
+-- ---- what it tells that a refusal does not apply
+
+pub record Passed (n : ℕ) (m : List ℕ) : Type 0 where
+  pub range : InRange n
+  pub forms : WellFormed n m
+  pub differs : repeats (held n m) ≡ false
+
+pub passed : (Lengths : Type 0) (n : ℕ) (m : List ℕ) (Full : Type 0) → ((x : ℕ) → x < 6 → Refused Lengths n m Full x → ⊥) → Passed n m
+passed Lengths n m Full h =
+    let range : InRange n = iff-stable _ (range-iff n) (λ q. h 1 (omega arith) (outOfRange q)) in
+    let forms : WellFormed n m = iff-stable _ (formed-iff n m range) (λ q. h 4 (omega arith) (notFormed q)) in
+    record { range = range; forms = forms; differs = false-iff _ (twice-iff n m range forms) (λ q. h 5 (omega arith) (samePointer q)) }
+
+pub read-passed : (n cells : ℕ) (m : List ℕ) (out : ℕ) → readNumber n cells m out ≡ 0 → Passed n m
+read-passed n cells m out z = passed _ n m _ (λ x _. read-lowest n cells m out .none z x)
 
 module _ (n : ℕ) (wanted mask values : List ℕ) (cells : ℕ) (m : List ℕ) where
+  abbrev Refuses : ℕ → Type 0
+  Refuses = WriteRefused n wanted mask values cells m
+
+  -- none of 1 to 5 applies: 6 exactly where the active entries and the unserved positions are more than n
+  pub full-exactly : (k : ℕ) → Lowest Refuses k → ((x : ℕ) → x < 6 → Refuses x → ⊥) → (k ≡ 6) ↔ (n < active n m + needed wanted mask values (held n m))
+  full-exactly k r h =
+      let p : Passed n m = passed _ n m _ h in
+      let (to, from) = none-left-iff n m (p .range) (p .forms) wanted mask values in (
+        λ e. from (from-6 _ n m _ (subst Refuses e (r .applies (omega arith)))),
+        λ l. lowest-is Refuses k 6 r (noEntry (to l)) h,
+      )
+
   -- what an accepted write tells
   pub record Accepted : Type 0 where
-    pub sizes : Measured n (eqb (length wanted) 64 && eqb (length mask) 64 && eqb (length values) 64 && eqb cells 64) (length m)
-    pub clean : Clean n m
+    pub judged : Passed n m
+    pub long : length wanted ≡ 64
     pub few : active n m + needed wanted mask values (held n m) ≤ n
 
-  pub wanted-long : Accepted → length wanted ≡ 64
-  wanted-long a =
-      let w : Bool = eqb (length wanted) 64 in
-      let k : Bool = eqb (length mask) 64 in
-      let v : Bool = eqb (length values) 64 in
-      eqb-true (length wanted) 64 (and-left w k (and-left (w && k) v (and-left (w && k && v) (eqb cells 64) (a .sizes .sized))))
-
   pub write-zero : writeNumber n wanted mask values cells m ≡ 0 → Accepted
-  unfolding writeNumber writeJudged
-  write-zero h =
-      let (j, k) = or-else-zero (writeJudged n wanted mask values cells m) (cond (ltb n total) 6 0) h in
-      let (a, b) = or-else-zero (measured n fixed (length m)) (verdict n m) j in
-      record { sizes = measured-zero n fixed (length m) a; clean = verdict-zero n m b; few = go (ltb n total) refl k }
-    where
-      fixed : Bool
-      fixed = eqb (length wanted) 64 && eqb (length mask) 64 && eqb (length values) 64 && eqb cells 64
-
-      total : ℕ
-      total = active n m + needed wanted mask values (held n m)
-
-      go : (t : Bool) → ltb n total ≡ t → _≡_ {A = ℕ} (cond t 6 0) 0 → total ≤ n
-      go true e q = absurd (omega arith)
-      go false e q = ltb-false n total e
+  write-zero z =
+      let none : (x : ℕ) → Refuses x → ⊥ = write-lowest n wanted mask values cells m .none z in
+      let p : Passed n m = passed _ n m _ (λ x _. none x) in
+      let over : n < active n m + needed wanted mask values (held n m) → ⊥ =
+      λ l. none 6 (noEntry (none-left-iff n m (p .range) (p .forms) wanted mask values .0 l)) in
+      record {
+        judged = p;
+        long = iff-stable _ (eqb-iff (length wanted) 64) (λ q. none 2 (wrongLength (λ r. q (r .dataBytes))));
+        few = ⊎-elim (λ l. absurd (over l)) (λ l. l) (lt-or-le n (active n m + needed wanted mask values (held n m)));
+      }

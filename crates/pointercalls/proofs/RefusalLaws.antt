@@ -3,21 +3,17 @@ use mathlib.Core.Path.{_≡_, refl, sym, subst}
 use mathlib.Core.Bool.{Bool, true, false, not, cond, _&&_}
 use mathlib.Core.List.{List}
 use mathlib.Core.Logic.{_↔_, Iff·trans}
-use Prim.Native.Nat.{ℕ, zero, suc, _+_, _≤_, _<_}
+use Prim.Native.Nat.{ℕ, zero, suc, _≤_}
 use native.Mathlib.Omega.{arith}
 use lib.Dec.{eqb}
 use lib.ListN.{length}
 use Rattle.bits.specs.Lowest.{Lowest}
 use Rattle.bits.proofs.TestLaws.{clash, leb-iff, ltb-iff, eqb-iff, iff-stable, not-iff, and-iff}
-use Rattle.bits.proofs.LowestLaws.{From, lowest-is, test-first, from-none, from-first}
-use Rattle.pointercalls.specs.Pointer.{size, spare, active, formed, held, repeats, orElse, measured, verdict, readNumber, needed, writeJudged, writeNumber}
+use Rattle.bits.proofs.LowestLaws.{From, test-first, from-none, from-first}
+use Rattle.pointercalls.specs.Pointer.{size, spare, formed, held, repeats, orElse, inRange, measured, verdict, readNumber, writeJudged, writeNumber}
 use Rattle.pointercalls.specs.Refusals.{InRange, Fewest, ReadLengths, WriteLengths, Spare, WellFormed, NamedTwice, NoneLeft, Refused, outOfRange, wrongLength, spareBit, notFormed, samePointer, noEntry, ReadRefused, WriteRefused}
-use Rattle.pointercalls.proofs.FormedLaws.{spare-iff, formed-iff}
+use Rattle.pointercalls.proofs.FormedLaws.{size-iff, spare-iff, formed-iff}
 use Rattle.pointercalls.proofs.ServedLaws.{twice-iff, none-left-iff}
-
--- the length of the metadata is the fewest bytes that hold it
-size-iff : (n l : ℕ) → (l ≡ size n) ↔ Fewest n l
-size-iff n l = (λ h. (omega arith, omega arith), λ (a, b). omega arith)
 
 -- ---- numbers that are tried in turn
 
@@ -29,12 +25,17 @@ or-else-none : (x : ℕ) → orElse x 0 ≡ x
 or-else-none zero = refl
 or-else-none (suc x) = refl
 
-sizes-first : (a b : Bool) (k : ℕ) → orElse (cond a (cond b 0 2) 1) k ≡ cond (not a) 1 (cond (not b) 2 k)
-sizes-first false b k = refl
-sizes-first true false k = refl
-sizes-first true true k = refl
+pub range-iff : (n : ℕ) → (inRange n ≡ true) ↔ InRange n
+range-iff n = Iff·trans (and-iff _ (leb-iff _ n) _ (leb-iff n _)) (λ (x, y). (omega arith, omega arith), λ (x, y). (omega arith, omega arith))
 
--- where 3, 4 and 5 come in that order
+-- 1 and 2 come first, in that order
+measured-first : (n : ℕ) (fixed : Bool) (l k : ℕ) (a b : Bool) → inRange n ≡ a → fixed && eqb l (size n) ≡ b → orElse (measured n fixed l) k ≡ cond (not a) 1 (cond (not b) 2 k)
+unfolding measured
+measured-first n fixed l k false b p q = rw p
+measured-first n fixed l k true false p q = rw (p, q)
+measured-first n fixed l k true true p q = rw (p, q)
+
+-- then 3, 4 and 5
 verdict-first : (n : ℕ) (m : List ℕ) (k : ℕ) (a b c : Bool) → spare n m ≡ a → formed n m ≡ b → repeats (held n m) ≡ c
     → orElse (verdict n m) k ≡ cond a 3 (cond (not b) 4 (cond c 5 k))
 unfolding verdict
@@ -64,7 +65,7 @@ module _ (Lengths : Type 0) (n : ℕ) (m : List ℕ) (Full : Type 0) where
   from-5 : P 5 → NamedTwice n m
   from-5 (samePointer h) = h
 
-  from-6 : P 6 → Full
+  pub from-6 : P 6 → Full
   from-6 (noEntry h) = h
 
   some-number : (y : ℕ) → P y → (1 ≤ y) × (y ≤ 6)
@@ -75,12 +76,12 @@ module _ (Lengths : Type 0) (n : ℕ) (m : List ℕ) (Full : Type 0) where
   some-number y (samePointer h) = (omega arith, omega arith)
   some-number y (noEntry h) = (omega arith, omega arith)
 
-  sizes-from : (a b : Bool) (k : ℕ) → (a ≡ true) ↔ InRange n → (b ≡ true) ↔ Lengths → (InRange n → Lengths → From P 3 k) → From P 1 (orElse (cond a (cond b 0 2) 1) k)
-  sizes-from a b k f g r =
-      subst (From P 1) (sym (sizes-first a b k))
-      (test-first P 1 _ _ (omega arith) (Iff·trans (not-iff a f) (outOfRange, from-1)) (λ p.
-      test-first P 2 _ _ (omega arith) (Iff·trans (not-iff b g) (wrongLength, from-2)) (λ q.
-      r (iff-stable a f (λ h. p (outOfRange h))) (iff-stable b g (λ h. q (wrongLength h))))))
+  measured-from : (fixed : Bool) (k : ℕ) → (fixed && eqb (length m) (size n) ≡ true) ↔ Lengths → (InRange n → Lengths → From P 3 k) → From P 1 (orElse (measured n fixed (length m)) k)
+  measured-from fixed k f r =
+      subst (From P 1) (sym (measured-first n fixed (length m) k (inRange n) (fixed && eqb (length m) (size n)) refl refl))
+      (test-first P 1 _ _ (omega arith) (Iff·trans (not-iff _ (range-iff n)) (outOfRange, from-1)) (λ p.
+      test-first P 2 _ _ (omega arith) (Iff·trans (not-iff _ f) (wrongLength, from-2)) (λ q.
+      r (iff-stable _ (range-iff n) (λ h. p (outOfRange h))) (iff-stable _ f (λ h. q (wrongLength h))))))
 
   verdict-from : (k : ℕ) → InRange n → length m ≡ size n → (WellFormed n m → From P 6 k) → From P 3 (orElse (verdict n m) k)
   verdict-from k range long r =
@@ -93,10 +94,9 @@ module _ (Lengths : Type 0) (n : ℕ) (m : List ℕ) (Full : Type 0) where
   -- `fixed` tests the lengths of the buffers of 64 bytes, and t whether more entries are needed than there are
   refused-lowest : (fixed t : Bool) (Fixed : Type 0) → (fixed ≡ true) ↔ Fixed → (Fixed × Fewest n (length m)) ↔ Lengths → (InRange n → WellFormed n m → (t ≡ true) ↔ Full)
       → Lowest P (orElse (measured n fixed (length m)) (orElse (verdict n m) (cond t 6 0)))
-  unfolding measured
   refused-lowest fixed t Fixed f g h =
       from-first P _ (λ y p. some-number y p .0)
-      (sizes-from _ _ _ (and-iff _ (leb-iff _ _) _ (leb-iff _ _)) (Iff·trans (and-iff fixed f _ (Iff·trans (eqb-iff _ _) (size-iff n (length m)))) g) (λ range sized.
+      (measured-from fixed _ (Iff·trans (and-iff fixed f _ (Iff·trans (eqb-iff (length m) (size n)) (size-iff n (length m)))) g) (λ range sized.
       verdict-from _ range (size-iff n (length m) .1 (g .1 sized .1)) (λ formed.
       test-first P 6 0 t (omega arith) (Iff·trans (h range formed) (noEntry, from-6)) (λ _.
       from-none P 7 (λ y q p. omega (arith, some-number y p))))))
@@ -122,14 +122,3 @@ module _ (n : ℕ) (wanted mask values : List ℕ) (cells : ℕ) (m : List ℕ) 
         λ r. ((((r .dataBytes, r .maskBytes), r .valueBytes), r .cellBytes), r .metadataBytes),
       )
       (λ range formed. Iff·trans (ltb-iff _ _) (none-left-iff n m range formed wanted mask values)))
-
-  -- where nothing lower applies, 6 exactly where the active entries and the unserved positions are more than n
-  pub full-exactly : (k : ℕ) → Lowest (WriteRefused n wanted mask values cells m) k → ((x : ℕ) → x < 6 → WriteRefused n wanted mask values cells m x → ⊥)
-      → (k ≡ 6) ↔ (n < active n m + needed wanted mask values (held n m))
-  full-exactly k r h =
-      let range : InRange n = iff-stable _ (and-iff _ (leb-iff 1 n) _ (leb-iff n 10)) (λ q. h 1 (omega arith) (outOfRange q)) in
-      let formed : WellFormed n m = iff-stable _ (formed-iff n m range) (λ q. h 4 (omega arith) (notFormed q)) in
-      let (to, from) = none-left-iff n m range formed wanted mask values in (
-        λ e. from (from-6 _ n m _ (subst (WriteRefused n wanted mask values cells m) e (r .applies (omega arith)))),
-        λ l. lowest-is (WriteRefused n wanted mask values cells m) k 6 r (noEntry (to l)) h,
-      )

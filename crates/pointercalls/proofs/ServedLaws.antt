@@ -1,18 +1,18 @@
 -- What the active entries name, which positions are unserved and how many: the definitions say what the refusals' facts say. Assumes nothing.
 use mathlib.Core.Path.{_≡_, refl, sym, ap, _∙_}
-use mathlib.Core.Bool.{Bool, true}
+use mathlib.Core.Bool.{Bool, true, false}
 use mathlib.Core.List.{List}
 use mathlib.Core.Logic.{_↔_, Iff·trans}
 use Prim.Native.Nat.{ℕ, _+_, _*_, _<_}
 use native.Mathlib.Omega.{arith}
 use lib.ListN.{length, getD}
 use Rattle.bits.specs.Bits.{num, sum, has, at}
-use Rattle.bits.proofs.TestLaws.{not-iff, and-iff, xor-iff}
+use Rattle.bits.proofs.TestLaws.{not-iff, and-iff, xor-iff, false-iff}
 use Rattle.bits.proofs.BoundLaws.{sum-rising}
 use Rattle.bits.proofs.BitLaws.{has-low, has-ext}
-use Rattle.pointercalls.specs.Pointer.{pointer, entry, active, held, names, repeats, unserved, positions, needed}
-use Rattle.pointercalls.specs.Refusals.{InRange, WellFormed, Names, NamedTwice, Unserved, NoneLeft}
-use Rattle.pointercalls.proofs.EntryLaws.{Twice, names-iff, repeats-iff}
+use Rattle.pointercalls.specs.Pointer.{pointer, replacement, entry, active, held, names, repeats, shown, unserved, positions, needed}
+use Rattle.pointercalls.specs.Refusals.{InRange, Active, WellFormed, Names, NamedTwice, Unserved, NoneLeft}
+use Rattle.pointercalls.proofs.EntryLaws.{Twice, names-iff, repeats-iff, shown-unnamed, shown-named}
 use Rattle.pointercalls.proofs.MetadataLaws.{has-entry, length-held, getD-held}
 use Rattle.pointercalls.proofs.PositionLaws.{length-positions, rising}
 use Rattle.pointercalls.proofs.FormedLaws.{active-is, active-said}
@@ -68,8 +68,18 @@ module _ (n : ℕ) (m : List ℕ) (range : InRange n) (formed : WellFormed n m) 
     λ (e, g, h). (e, omega (arith, length-held n m), ap pointer (getD-held n m e g) ∙ pointer-iff m e p l .1 h),
   )
 
+  pub shown-cell : (a p : ℕ) (v : Bool) → Active n m a → p < 512 → ((e : ℕ) → e < a → Names m e p → ⊥) → shown (held n m) p v ≡ v
+  shown-cell a p v s l u =
+      let q : active n m ≡ a = active-is n m range a s in shown-unnamed (held n m) p v (false-iff _ (named-iff p l) (λ (e, g, h). u e (omega arith) h))
+
+  pub shown-entry : (a e p : ℕ) (v : Bool) → repeats (held n m) ≡ false → Active n m a → e < a → p < 512 → Names m e p → shown (held n m) p v ≡ at m (1 + 10 * e + 9)
+  shown-entry a e p v d s l k h =
+      let q : active n m ≡ a = active-is n m range a s in
+      let g : getD (held n m) e 0 ≡ entry m e = getD-held n m e (omega arith) in
+      shown-named (held n m) e p v d (omega (arith, length-held n m)) (ap pointer g ∙ pointer-iff m e p k .1 h) ∙ ap replacement g ∙ has-entry m e 9 (omega arith)
+
   module _ (wanted mask values : List ℕ) where
-    unserved-iff : (p : ℕ) → p < 512 → (unserved wanted mask values (held n m) p ≡ true) ↔ Unserved wanted mask values m (active n m) p
+    pub unserved-iff : (p : ℕ) → p < 512 → (unserved wanted mask values (held n m) p ≡ true) ↔ Unserved wanted mask values m (active n m) p
     unfolding unserved
     unserved-iff p l =
         Iff·trans (and-iff _ (and-iff _ (λ h. h, λ h. h) _ (xor-iff (at wanted p) (at values p))) _ (not-iff _ (named-iff p l))) (

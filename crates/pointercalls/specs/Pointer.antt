@@ -119,9 +119,12 @@ abbrev pub orElse : ℕ → ℕ → ℕ
 orElse zero k = k
 orElse (suc j) k = suc j
 
+abbrev pub inRange : ℕ → Bool
+inRange n = leb 1 n && leb n 10
+
 -- 1 for n out of range; 2 for a wrong length: `fixed` says that the buffers of 64 bytes have theirs, m is the metadata's
 unfoldable pub measured : ℕ → Bool → ℕ → ℕ
-measured n fixed m = cond (leb 1 n && leb n 10) (cond (fixed && eqb m (size n)) 0 2) 1
+measured n fixed m = cond (inRange n) (cond (fixed && eqb m (size n)) 0 2) 1
 
 -- 3 for a spare bit, 4 for metadata that is not well formed, 5 for two active entries with one pointer
 unfoldable pub verdict : ℕ → List ℕ → ℕ

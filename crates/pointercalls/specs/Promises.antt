@@ -1,6 +1,6 @@
 -- What the two calls promise, for every argument. What a write is to store, its data, is called `wanted`; a name with a prime is a buffer at exit.
 -- proofs/Unique.antt shows that no second answer keeps them. Assumes nothing.
-use Prim.Native.Nat.{ℕ, _+_, _≤_, _<_}
+use Prim.Native.Nat.{ℕ, _+_, _*_, _≤_, _<_}
 use mathlib.Core.Path.{_≡_}
 use mathlib.Core.Bool.{true, false}
 use mathlib.Core.List.{List}
@@ -8,8 +8,8 @@ use mathlib.Core.Logic.{_↔_, _≢_}
 use lib.ListN.{length}
 use Rattle.bits.specs.Bits.{at, bytes}
 use Rattle.bits.specs.Lowest.{Lowest}
-use Rattle.pointercalls.specs.Pointer.{pointer, replacement, entry, active, held, shown, unserved, after, activeAfter, stored, encode, readNumber, needed, writeNumber}
-use Rattle.pointercalls.specs.Refusals.{ReadRefused, WriteRefused}
+use Rattle.pointercalls.specs.Pointer.{pointer, replacement, entry, active, held, shown, after, activeAfter, stored, encode, readNumber, needed, writeNumber}
+use Rattle.pointercalls.specs.Refusals.{Active, Names, Unserved, ReadRefused, WriteRefused}
 use Rattle.pointercalls.specs.declared.ReadAnswer.{ReadAnswer}
 use Rattle.pointercalls.specs.declared.WriteAnswer.{WriteAnswer}
 
@@ -22,6 +22,9 @@ pub record Read (n : ℕ) (cells metadata out : List ℕ) (answer : ReadAnswer) 
   pub refused : answer .number ≢ 0 → out′ ≡ out
   -- else each position's bit is what it shows
   pub filled : answer .number ≡ 0 → out′ ≡ bytes 64 (λ p. shown (held n metadata) p (at cells p))
+  -- which is its cell where no active entry names it, and else that entry's replacement bit
+  pub shows : answer .number ≡ 0 → (a p : ℕ) → Active n metadata a → p < 512 → ((e : ℕ) → e < a → Names metadata e p → ⊥) → at out′ p ≡ at cells p
+  pub replaces : answer .number ≡ 0 → (a e p : ℕ) → Active n metadata a → e < a → p < 512 → Names metadata e p → at out′ p ≡ at metadata (1 + 10 * e + 9)
 
 pub record Write (n : ℕ) (wanted mask values cells metadata : List ℕ) (answer : WriteAnswer) (cells′ metadata′ : List ℕ) : Type 0 where
   -- the number, computed
@@ -39,15 +42,16 @@ pub record Write (n : ℕ) (wanted mask values cells metadata : List ℕ) (answe
   -- a sound cell takes its wanted bit, a stuck one holds its stuck value
   pub sound : answer .number ≡ 0 → (p : ℕ) → p < 512 → at mask p ≡ false → at cells′ p ≡ at wanted p
   pub stuck : answer .number ≡ 0 → (p : ℕ) → p < 512 → at mask p ≡ true → at cells′ p ≡ at values p
-  -- the active count is the one that the stored metadata says, and the new ones are the difference
-  pub noted : answer .number ≡ 0 → answer .active ≡ active n metadata′
+  -- the metadata says how many entries are active, before and afterwards, and the new ones are the difference
+  pub counted : answer .number ≡ 0 → Active n metadata (active n metadata)
+  pub noted : answer .number ≡ 0 → Active n metadata′ (answer .active)
   pub adds : answer .number ≡ 0 → answer .active ≡ active n metadata + answer .new
   -- an active entry keeps its place and pointer, and each entry has the wanted bit of its position
   pub kept : answer .number ≡ 0 → (e : ℕ) → e < active n metadata → pointer (entry metadata′ e) ≡ pointer (entry metadata e)
   pub renews : answer .number ≡ 0 → (e : ℕ) → e < answer .active → replacement (entry metadata′ e) ≡ at wanted (pointer (entry metadata′ e))
   -- the new ones name unserved positions, in rising order
   pub serves : answer .number ≡ 0 → (e : ℕ) → active n metadata ≤ e → e < answer .active
-      → unserved wanted mask values (held n metadata) (pointer (entry metadata′ e)) ≡ true
+      → Unserved wanted mask values metadata (active n metadata) (pointer (entry metadata′ e))
   pub rises : answer .number ≡ 0 → (e f : ℕ) → active n metadata ≤ e → e < f → f < answer .active → pointer (entry metadata′ e) < pointer (entry metadata′ f)
   -- a read of what was left, into any output of the right length, answers 0 and gives the wanted bits
   pub reads : answer .number ≡ 0 → (out : List ℕ) → length out ≡ 64 → Read n cells′ metadata′ out (record { number = 0 }) wanted

@@ -1,12 +1,8 @@
 -- `measured` judges n first, then the lengths. Assumes nothing.
-use mathlib.Core.Bool.{true, false, _&&_}
-use mathlib.Core.Path.{sym, ap, ap₂}
-use borrow.Author.Tests.{not-true, not-false, eq-eqb, ne-eqb}
-use lib.Dec.{eqb}
+use mathlib.Core.Bool.{true, false}
+use mathlib.Core.Path.{sym}
 use borrow.Author.Needs.{needs}
 use native.Mathlib.Omega.{arith}
-use Rattle.bits.proofs.TestLaws.{and-in}
-use Rattle.pointercalls.specs.Pointer.{size}
 use Rattle.pointercalls.proofs.NumberLaws.{measured-low, measured-high, measured-in}
 use Rattle.pointer.proofs.measured.Statement.{statement}
 use Rattle.pointer.proofs.measured.Tie as tie
@@ -19,17 +15,13 @@ measured-spec =
     (λ c. measured-low _ _ _ (c .if1 .taken))
     -- returns-2
     (λ c. measured-high _ _ _ (c .if2 .taken))
+    -- mul-if3
+    (λ c. search needs)
+    -- add-if3
+    (λ c. search needs)
+    -- add-if3-2
+    (λ c. search needs)
     -- returns-3
-    (λ c.
-    let g = c .before .before .before .args in
-    measured-in _ _ _ false (omega arith) (omega arith) (sym (ap (λ t. t && eqb (g .metadata) (size (g .n))) (not-true (g .fixed) (c .if3 .taken)))))
-    -- mul-if4
-    (λ c. search needs)
-    -- add-if4
-    (λ c. search needs)
-    -- add-if4-2
-    (λ c. search needs)
+    (λ c. measured-in _ _ _ true (omega arith) (omega arith) (sym (c .if3 .taken)))
     -- returns-4
-    (λ c. let g = c .before .before .before .before .args in measured-in _ _ _ true (omega arith) (omega arith) (sym (and-in (not-false (g .fixed) (c .before .if3 .left)) (eq-eqb _ _ (c .if4 .taken)))))
-    -- returns-5
-    (λ c. let g = c .before .before .before .before .args in measured-in _ _ _ false (omega arith) (omega arith) (sym (ap₂ _&&_ (not-false (g .fixed) (c .before .if3 .left)) (ne-eqb _ _ (c .if4 .left))))))
+    (λ c. measured-in _ _ _ false (omega arith) (omega arith) (sym (c .if3 .left))))

@@ -1,34 +1,25 @@
 -- `read` refuses what is not measured right. Assumes nothing.
-use mathlib.Core.Bool.{_&&_}
-use mathlib.Core.Path.{_≡_, ap, sym, _∙_}
-use lib.Dec.{eqb}
-use lib.ListN.{length}
+use mathlib.Core.Path.{_≡_, sym, _∙_}
 use borrow.Author.Needs.{needs}
 use native.Mathlib.Omega.{arith}
-use Rattle.pointercalls.specs.Pointer.{measured}
 use Rattle.pointer.proofs.RowLaws.{read-unmeasured, read-sized}
 use Rattle.pointer.proofs.read.Statement.{statement}
 use Rattle.pointer.proofs.read.Tie as tie
-
-judged : (c : tie.After-measured) → let g = c .before .before .before .before .before .args in
-    c .measured .result ≡ measured (g .n) (eqb (length (g .cells .now)) 64 && eqb (length (g .out .now)) 64) (length (g .metadata .now))
-judged c = let g = c .before .before .before .before .before .args in c .measured .ensures ∙ ap (λ t. measured (g .n) t (length (g .metadata .now))) (c .before .fixed .ensures)
 
 pub read-spec : {M : Type 1} → statement M
 read-spec =
     tie.close
     (tie.spec
-    -- fixed-requires
-    (λ c κs. search needs)
     -- measured-requires
     (λ c κs. search needs)
     -- returns
-    (λ c. read-unmeasured _ _ _ _ _ (judged (c .before)) (omega arith))
+    (λ c. read-unmeasured _ _ _ _ _ (c .before .measured .ensures) (omega arith))
     -- read-row-requires
     (λ c κs.
-    let g = c .before .before .before .before .before .before .before .args in
-    let z : c .before .before .measured .result ≡ 0 = omega arith in
-    read-sized (g .n) (g .cells .now) (g .metadata .now) (g .out .now) (sym (judged (c .before .before)) ∙ z))
+    let g = c .before .before .before .before .before .before .args in
+    let m = c .before .before .measured in
+    let z : m .result ≡ 0 = omega arith in
+    read-sized (g .n) (g .cells .now) (g .metadata .now) (g .out .now) (sym (m .ensures) ∙ z))
     -- same-length
     (λ c. search needs)
     -- returns-2

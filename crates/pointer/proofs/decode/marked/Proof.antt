@@ -1,5 +1,6 @@
 -- `marked` marks entry by entry. Assumes nothing.
 use Prim.Native.Nat.{_-_, _≤_}
+use mathlib.Core.Path.{refl}
 use native.Mathlib.Omega.{arith}
 use Rattle.pointer.proofs.DecodeLaws.{Marking, mark-start, mark-more, mark-done}
 use Rattle.pointer.proofs.decode.marked.Statement.{statement}
@@ -24,8 +25,10 @@ marked-spec =
     (λ c. omega arith)
     -- array-read-b
     (λ c. omega arith)
-    -- again-requires
-    (λ c κs. omega arith)
+    -- cast-repeated
+    (λ c. omega arith)
+    -- shr-repeated
+    (λ c. omega arith)
     -- with-bit-requires
     (λ c κs. omega arith)
     -- array-write-served
@@ -36,7 +39,7 @@ marked-spec =
     (λ c. omega arith)
     -- loop-again
     (λ c.
-    let l = c .before .before .before .loop in
-    (omega arith, mark-more (c .before .before .before .before .args .t1) (l .i) _ _ _ _ (omega arith) (l .inv .1) (c .before .again .ensures) (c .with-bit .ensures)))
+    let l = c .before .before .loop in
+    (omega arith, mark-more (c .before .before .before .args .t1) (l .i) _ _ _ _ (omega arith) (l .inv .1) refl (c .with-bit .ensures)))
     -- returns
     (λ c. mark-done (c .before .before .args .t1) (c .before .loop .i) (c .before .before .args .a) _ _ (omega arith) (c .before .loop .inv .1)))
