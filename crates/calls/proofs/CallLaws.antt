@@ -2,7 +2,7 @@
 use mathlib.Core.Path.{_≡_, refl, sym, ap, ap₂, subst, _∙_}
 use mathlib.Core.Bool.{Bool, true, false, cond}
 use mathlib.Core.List.{List, [], _∷_, _++_}
-use Prim.Native.Nat.{ℕ, _+_, _-_, _*_, _≤_, _<_}
+use Prim.Native.Nat.{ℕ, _+_, _*_, _≤_, _<_}
 use native.Mathlib.Omega.{arith}
 use native.Mathlib.Decide.{ℕ-discrete}
 use borrow.Author.Tests.{ne-eqb}
@@ -14,8 +14,8 @@ use Rattle.calls.specs.declared.input.WritePlaces.{WritePlaces}
 use Rattle.calls.specs.declared.input.ReadPlaces.{ReadPlaces}
 use Rattle.calls.specs.Format.{many, isBuffer, afterNumbers, afterBuffer, afterBuffers, afterCall, callEnd, Stands, between, wordsOf}
 use Rattle.calls.specs.Text.{decimal, bufferText, writeLine, readLine, Put}
-use Rattle.calls.specs.Calls.{WriteStands, WriteAt, ReadStands, ReadAt, WriteLine, ReadLine, Called, Write, Read, Printed}
-use Rattle.calls.proofs.FormatLaws.{Buffer, is-buffer}
+use Rattle.calls.specs.Calls.{WriteAt, ReadAt, WriteLine, ReadLine, Called, Write, Read, Printed}
+use Rattle.calls.proofs.FormatLaws.{is-buffer}
 use Rattle.calls.proofs.TextLaws.{length-decimals, length-text, length-write, length-read, put-nothing}
 
 -- ---- places
@@ -96,7 +96,7 @@ loaded-words bs p q r src out part h l e m f k =
 
 -- ---- lines
 
-pub length-write-line : (number first second n : ℕ) (xs ys : List ℕ) → 0 < n → n ≤ 16 → length xs ≤ 512 → length ys ≤ 512
+length-write-line : (number first second n : ℕ) (xs ys : List ℕ) → 0 < n → n ≤ 16 → length xs ≤ 512 → length ys ≤ 512
     → length (writeLine number first second n xs ys) ≤ 9281
 length-write-line number first second n xs ys p q l k =
     omega (
@@ -109,10 +109,18 @@ length-write-line number first second n xs ys p q l k =
       length-text 2 ys (omega arith) k,
     )
 
-pub length-read-line : (number n : ℕ) (xs : List ℕ) → 0 < n → n ≤ 16 → length xs ≤ 512 → length (readLine number n xs) ≤ 9281
+length-read-line : (number n : ℕ) (xs : List ℕ) → 0 < n → n ≤ 16 → length xs ≤ 512 → length (readLine number n xs) ≤ 9281
 length-read-line number n xs p q l = omega (arith, length-read (decimal number) (bufferText n xs), length-decimals 20 number, length-text n xs p l)
 
--- the line of an answer
+-- the line of an answer, and the room for it
+pub write-fits : {m n q : ℕ} (p number first second digits : ℕ) (cells others : List ℕ) → 0 < digits → digits ≤ 16 → m ≤ 512 → n ≤ 512 → length cells ≡ m → length others ≡ n
+    → p + 9281 ≤ q → p + length (writeLine number first second digits cells others) ≤ q
+write-fits p number first second digits cells others a b l k e f h =
+    omega (arith, length-write-line number first second digits cells others a b (omega arith) (omega arith))
+
+pub read-fits : {m q : ℕ} (p number digits : ℕ) (shown : List ℕ) → 0 < digits → digits ≤ 16 → m ≤ 512 → length shown ≡ m → p + 9281 ≤ q → p + length (readLine number digits shown) ≤ q
+read-fits p number digits shown a b l e h = omega (arith, length-read-line number digits shown a b (omega arith))
+
 pub write-line : {m n : ℕ} {before after : List ℕ} {p q : ℕ} (number first second digits : ℕ) (cells others : List ℕ) → 0 < digits → digits ≤ 16 → m ≤ 512 → n ≤ 512
     → length cells ≡ m → length others ≡ n → Put (writeLine number first second digits cells others) before p after q → WriteLine digits m n before p after q
 write-line number first second digits cells others a b l k e f h = record {
@@ -147,18 +155,22 @@ made : {Line : Type 0} {before after : List ℕ} {p q : ℕ} (end e : ℕ) → e
 made end e h k l = record { takes = h; none = λ j. absurd (k (h ∙ j)); line = λ _. l }
 
 pub write-none : (bs : List ℕ) (n w digits : ℕ) (r : WritePlaces) (out : List ℕ) (p : ℕ) → WriteAt bs n w r → r .end ≡ 0 → Write n w digits bs 0 out p out p
+unfolding Write
 write-none bs n w digits r out p h k = none (afterCall bs n (w ∷ w ∷ w ∷ w ∷ 1 ∷ [])) (r .end) out p (h .end) k
 
 pub write-made : {before after : List ℕ} {p q : ℕ} (bs : List ℕ) (n w digits : ℕ) (r : WritePlaces) → WriteAt bs n w r → (r .end ≡ 0 → ⊥)
     → WriteLine digits (many bs (r .cells)) (many bs (r .others)) before p after q → Write n w digits bs (r .end) before p after q
+unfolding Write
 write-made bs n w digits r h k l =
     made (afterCall bs n (w ∷ w ∷ w ∷ w ∷ 1 ∷ [])) (r .end) (h .end) k (write-sizes digits (ap (many bs) (h .cells)) (ap (many bs) (h .others)) l)
 
 pub read-none : (bs : List ℕ) (n w digits : ℕ) (r : ReadPlaces) (out : List ℕ) (p : ℕ) → ReadAt bs n w r → r .end ≡ 0 → Read n w digits bs 0 out p out p
+unfolding Read
 read-none bs n w digits r out p h k = none (afterCall bs n (w ∷ 1 ∷ w ∷ [])) (r .end) out p (h .end) k
 
 pub read-made : {before after : List ℕ} {p q : ℕ} (bs : List ℕ) (n w digits : ℕ) (r : ReadPlaces) → ReadAt bs n w r → (r .end ≡ 0 → ⊥)
     → ReadLine digits (many bs (r .shown)) before p after q → Read n w digits bs (r .end) before p after q
+unfolding Read
 read-made bs n w digits r h k l = made (afterCall bs n (w ∷ 1 ∷ w ∷ [])) (r .end) (h .end) k (read-sizes digits (ap (many bs) (h .shown)) l)
 
 -- ---- the call at the front
@@ -200,8 +212,10 @@ printed {bs} {Line} {end} {taken} {before} {after} {p} {q} e f h = go (ℕ-discr
 
 pub printed-write : {bs : List ℕ} {taken : ℕ} {before after : List ℕ} {p q : ℕ} (n w digits : ℕ) → afterCall bs n (w ∷ w ∷ w ∷ w ∷ 1 ∷ []) ≡ callEnd bs
     → Write n w digits bs taken before p after q → Printed bs taken before p after q
+unfolding Write
 printed-write n w digits e h = printed e (λ l. (writeLine (l .number) (l .first) (l .second) digits (l .cells) (l .others), l .short, l .put)) h
 
 pub printed-read : {bs : List ℕ} {taken : ℕ} {before after : List ℕ} {p q : ℕ} (n w digits : ℕ) → afterCall bs n (w ∷ 1 ∷ w ∷ []) ≡ callEnd bs
     → Read n w digits bs taken before p after q → Printed bs taken before p after q
+unfolding Read
 printed-read n w digits e h = printed e (λ l. (readLine (l .number) digits (l .shown), l .short, l .put)) h

@@ -3,3 +3,4 @@ mod TextLaws
 mod CallLaws
 mod StreamLaws
 mod TurnLaws
+mod Examples

@@ -1,17 +1,17 @@
 -- Laws of calls in a stream: a call lies within its bytes, none is longer than 16,931 bytes, and where so many stand there, the bytes that follow change
 -- nothing. So a call is judged only when it is there whole or the input has ended. Assumes nothing.
-use mathlib.Core.Path.{_≡_, refl, sym, ap, ap₂, subst, _∙_}
+use mathlib.Core.Path.{_≡_, refl, ap, ap₂, _∙_}
 use mathlib.Core.Bool.{Bool, true, false, cond}
 use mathlib.Core.List.{List, [], _∷_, _++_}
-use Prim.Native.Nat.{ℕ, zero, suc, _+_, _-_, _*_, _≤_, _<_}
-use native.Mathlib.Nat.{le-trans, mul-le-mul-left}
+use Prim.Native.Nat.{ℕ, _+_, _*_, _≤_}
+use native.Mathlib.Nat.{mul-le-mul-left}
 use native.Mathlib.Omega.{arith}
 use lib.Dec.{eqb, leb}
 use lib.ListN.{length, getD, take, drop, length-append, length-drop, List·getD-append}
 use lib.Seq.{take-append-le, drop-append-le}
-use borrow.Author.Tests.{le-leb, leb-true, ne-eqb}
+use borrow.Author.Tests.{le-leb, leb-true}
 use Rattle.bits.specs.Bits.{number}
-use Rattle.bits.proofs.TestLaws.{same-test, true-or-false}
+use Rattle.bits.proofs.TestLaws.{same-test}
 use Rattle.calls.specs.Format.{numberAt, many, isBuffer, afterNumbers, afterBuffer, afterBuffers, afterCall, callEnd}
 use Rattle.calls.proofs.FormatLaws.{Buffer, is-buffer, buffer-is}
 

@@ -8,8 +8,8 @@ use native.Mathlib.Numerals.{add-one}
 use native.Mathlib.Omega.{arith}
 use native.Mathlib.Decide.{decLt}
 use lib.Dec.{ltb}
-use lib.ListN.{length, getD, take, drop, set, length-append, length-take}
-use lib.Seq.{take-all, take-suc, take-suc-set, drop-cons, drop-length, set-split, drop-at, length-take-le, take-at}
+use lib.ListN.{length, getD, take, drop, set, length-append}
+use lib.Seq.{take-all, take-suc, take-suc-set, drop-length, set-split, drop-at, length-take-le, take-at}
 use borrow.Author.Tests.{lt-ltb, le-ltb}
 use Rattle.io.specs.Digits.{glyph, digits}
 use Rattle.calls.specs.Text.{hexOf, decimals, decimal, hexes, dash, bufferText, line, Put}

@@ -64,14 +64,14 @@ pub record Called (end : ℕ) (Line : Type 0) (taken : ℕ) (before : List ℕ) 
   pub line : (end ≡ 0 → ⊥) → Line
 
 -- a write with n numbers and three buffers of w bytes an element that it does not change, then its cells, then a buffer of bytes
-abbrev pub Write : ℕ → ℕ → ℕ → List ℕ → ℕ → List ℕ → ℕ → List ℕ → ℕ → Type 0
+unfoldable pub Write : ℕ → ℕ → ℕ → List ℕ → ℕ → List ℕ → ℕ → List ℕ → ℕ → Type 0
 Write n w digits bs taken before p after q =
     Called (afterCall bs n (w ∷ w ∷ w ∷ w ∷ 1 ∷ []))
     (WriteLine digits (many bs (afterCall bs n (w ∷ w ∷ w ∷ []))) (many bs (afterCall bs n (w ∷ w ∷ w ∷ w ∷ []))) before p after q)
     taken before p after q
 
 -- a read with n numbers, cells of w bytes an element, a buffer of bytes, and an output like the cells
-abbrev pub Read : ℕ → ℕ → ℕ → List ℕ → ℕ → List ℕ → ℕ → List ℕ → ℕ → Type 0
+unfoldable pub Read : ℕ → ℕ → ℕ → List ℕ → ℕ → List ℕ → ℕ → List ℕ → ℕ → Type 0
 Read n w digits bs taken before p after q =
     Called (afterCall bs n (w ∷ 1 ∷ w ∷ [])) (ReadLine digits (many bs (afterCall bs n (w ∷ 1 ∷ []))) before p after q) taken before p after q
 

@@ -20,13 +20,19 @@ run-spec =
     -- loop-holds
     (λ c. (refl, refl, record { started = omega arith; ended = omega arith; written = omega arith }))
     -- turn-requires
-    (λ c κs. let v = c .before .before .before .before .loop .inv in let p = c .before .before .before .before .before .before .before .pre in (v .2, (omega (arith, p, v .0), omega (arith, p, v .1))))
+    (λ c κs.
+    let v = c .before .before .before .before .loop .inv in
+    let p = c .before .before .before .before .before .before .before .pre in
+    (v .2, (omega (arith, p, v .0), omega (arith, p, v .1))))
     -- sub-turns
     (λ c. omega arith)
     -- loop-less
     (λ c. omega arith)
     -- loop-again
-    (λ c. let v = c .before .before .before .before .before .before .before .before .before .loop .inv in let t = c .before .before .before .before .turn in (t .kept .0 ∙ v .0, t .kept .1 .0 ∙ v .1, t .ensures))
+    (λ c.
+    let v = c .before .before .before .before .before .before .before .before .before .loop .inv in
+    let t = c .before .before .before .before .turn in
+    (t .kept .0 ∙ v .0, t .kept .1 .0 ∙ v .1, t .ensures))
     -- flush-requires
     (λ c κs. c .before .before .loop .inv .2 .written)
     -- same-length

@@ -14,7 +14,11 @@ turn-spec =
     -- wants-more-requires
     (λ c κs. search needs)
     -- fetch-requires
-    (λ c κs. let p = c .before .before .before .before .before .before .pre in let s = c .before .before .before .before .before .before .args .s in let w = c .before .before .wants-more in ((p .0 .started, p .0 .ended), omega (arith, p .1 .0, wanted (w .result) (s .more) (s .end - s .at) (w .ensures) (c .before .if1 .taken))))
+    (λ c κs.
+    let p = c .before .before .before .before .before .before .pre in
+    let s = c .before .before .before .before .before .before .args .s in
+    let w = c .before .before .wants-more in
+    ((p .0 .started, p .0 .ended), omega (arith, p .1 .0, wanted (w .result) (s .more) (s .end - s .at) (w .ensures) (c .before .if1 .taken))))
     -- same-length
     (λ c. search needs)
     -- returns
@@ -30,7 +34,9 @@ turn-spec =
     -- returns-3
     (λ c. search needs)
     -- make-requires
-    (λ c κs. let p = c .before .before .before .before .before .before .before .before .before .before .before .pre in ((omega (arith, p .0 .started, c .before .before .before .before .if2 .left), p .0 .ended), (unwanted _ _ _ (c .before .before .before .before .before .before .before .wants-more .ensures) (c .before .before .before .before .before .before .if1 .left), omega (arith, p .0 .written, c .before .before .if3 .left))))
+    (λ c κs.
+    let p = c .before .before .before .before .before .before .before .before .before .before .before .pre in
+    ((omega (arith, p .0 .started, c .before .before .before .before .if2 .left), p .0 .ended), (unwanted _ _ _ (c .before .before .before .before .before .before .before .wants-more .ensures) (c .before .before .before .before .before .before .if1 .left), omega (arith, p .0 .written, c .before .before .if3 .left))))
     -- same-length-3
     (λ c. search needs)
     -- same-length-4

@@ -1,6 +1,5 @@
-use native.Mathlib.Omega.{arith}
-use Rattle.calls.proofs.CallLaws.{length-read-line, read-line}
-use borrow.Author.Needs.{needs}
+use lib.Dec.{lit<, lit≤}
+use Rattle.calls.proofs.CallLaws.{read-fits, read-line}
 use Rattle.calls.proofs.call.answer_grid_read.Statement.{statement}
 use Rattle.calls.proofs.call.answer_grid_read.Tie as tie
 
@@ -11,10 +10,16 @@ answer-grid-read-spec =
     -- read-requires
     (λ c κs. tt)
     -- put-grid-read-requires
-    (λ c κs. let w = c .before .before .before .before .read in let p = c .before .before .before .before .before .before .before .before .before .before .pre in omega (arith, p .1, length-read-line (w .result .number) 16 (w .last .1 .1 .1 .1 .1 .0) (omega arith) (omega arith) (omega (arith, p .0, w .kept .1 .1 .1 .1 .1 .0))))
+    (λ c κs.
+    let w = c .before .before .before .before .read in
+    let a = c .before .before .before .before .before .before .before .before .before .before in
+    let p = a .pre in
+    read-fits (a .args .put) (w .result .number) 16 _ (lit< tt) (lit≤ tt) (p .0) (w .kept .1 .1 .1 .1 .1 .0) (p .1))
     -- same-length
     (λ c. c .before .before .before .before .before .before .before .read .kept .1 .1 .1 .1 .1 .0)
     -- same-length-2
     (λ c. c .before .before .put-grid-read .kept .0)
     -- returns
-    (λ c. let w = c .before .before .before .before .before .before .before .read in read-line _ 16 _ (omega arith) (omega arith) (c .before .before .before .before .before .before .before .before .before .before .before .before .before .pre .0) (w .kept .1 .1 .1 .1 .1 .0) (c .before .before .put-grid-read .ensures)))
+    (λ c.
+    let w = c .before .before .before .before .before .before .before .read in
+    read-line _ 16 _ (lit< tt) (lit≤ tt) (c .before .before .before .before .before .before .before .before .before .before .before .before .before .pre .0) (w .kept .1 .1 .1 .1 .1 .0) (c .before .before .put-grid-read .ensures)))

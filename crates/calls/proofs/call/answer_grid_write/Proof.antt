@@ -1,6 +1,5 @@
-use native.Mathlib.Omega.{arith}
-use Rattle.calls.proofs.CallLaws.{length-write-line, write-line}
-use borrow.Author.Needs.{needs}
+use lib.Dec.{lit<, lit≤}
+use Rattle.calls.proofs.CallLaws.{write-fits, write-line}
 use Rattle.calls.proofs.call.answer_grid_write.Statement.{statement}
 use Rattle.calls.proofs.call.answer_grid_write.Tie as tie
 
@@ -11,7 +10,11 @@ answer-grid-write-spec =
     -- write-requires
     (λ c κs. tt)
     -- put-grid-write-requires
-    (λ c κs. let w = c .before .before .before .before .before .before .before .write in let p = c .before .before .before .before .before .before .before .before .before .before .before .before .before .before .before .before .pre in omega (arith, p .1 .1, length-write-line (w .result .number) (w .result .levels) (w .result .faults) 16 (w .last .1 .1 .1 .1 .1 .1 .0) (w .last .1 .1 .1 .1 .1 .1 .1 .0) (omega arith) (omega arith) (omega (arith, p .0, w .kept .1 .1 .1 .1 .1 .1 .0)) (omega (arith, p .1 .0, w .kept .1 .1 .1 .1 .1 .1 .1 .0))))
+    (λ c κs.
+    let w = c .before .before .before .before .before .before .before .write in
+    let a = c .before .before .before .before .before .before .before .before .before .before .before .before .before .before .before .before in
+    let p = a .pre in
+    write-fits (a .args .put) (w .result .number) (w .result .levels) (w .result .faults) 16 _ _ (lit< tt) (lit≤ tt) (p .0) (p .1 .0) (w .kept .1 .1 .1 .1 .1 .1 .0) (w .kept .1 .1 .1 .1 .1 .1 .1 .0) (p .1 .1))
     -- same-length
     (λ c. c .before .before .before .before .before .before .before .before .before .before .write .kept .1 .1 .1 .1 .1 .1 .0)
     -- same-length-2
@@ -19,4 +22,7 @@ answer-grid-write-spec =
     -- same-length-3
     (λ c. c .before .before .put-grid-write .kept .0)
     -- returns
-    (λ c. let w = c .before .before .before .before .before .before .before .before .before .before .write in let p = c .before .before .before .before .before .before .before .before .before .before .before .before .before .before .before .before .before .before .before .pre in write-line _ _ _ 16 _ _ (omega arith) (omega arith) (p .0) (p .1 .0) (w .kept .1 .1 .1 .1 .1 .1 .0) (w .kept .1 .1 .1 .1 .1 .1 .1 .0) (c .before .before .put-grid-write .ensures)))
+    (λ c.
+    let w = c .before .before .before .before .before .before .before .before .before .before .write in
+    let p = c .before .before .before .before .before .before .before .before .before .before .before .before .before .before .before .before .before .before .before .pre in
+    write-line _ _ _ 16 _ _ (lit< tt) (lit≤ tt) (p .0) (p .1 .0) (w .kept .1 .1 .1 .1 .1 .1 .0) (w .kept .1 .1 .1 .1 .1 .1 .1 .0) (c .before .before .put-grid-write .ensures)))

@@ -1,5 +1,5 @@
+use lib.Dec.{lit≤}
 use Rattle.calls.proofs.CallLaws.{read-none, read-made}
-use borrow.Author.Needs.{needs}
 use Rattle.calls.proofs.call.grid_read.Statement.{statement}
 use Rattle.calls.proofs.call.grid_read.Tie as tie
 
@@ -8,12 +8,12 @@ grid-read-spec =
     tie.close
     (tie.spec
     -- read-places-requires
-    (λ c κs. search needs)
+    (λ c κs. (lit≤ tt, lit≤ tt))
     -- returns
     (λ c. read-none _ _ _ 16 _ _ _ (c .before .before .read-places .ensures) (c .if1 .taken))
     -- take-grid-read-requires
     (λ c κs. (c .before .before .before .read-places .ensures .whole (c .before .if1 .left), c .before .before .before .before .before .before .pre))
     -- same-length
-    (λ c. search needs)
+    (λ c. c .before .before .take-grid-read .kept .1 .1 .0)
     -- returns-2
     (λ c. read-made _ _ _ 16 _ (c .before .before .before .before .before .before .read-places .ensures) (c .before .before .before .before .if1 .left) (c .before .before .take-grid-read .ensures)))

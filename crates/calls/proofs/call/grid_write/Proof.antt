@@ -1,5 +1,5 @@
+use lib.Dec.{lit≤}
 use Rattle.calls.proofs.CallLaws.{write-none, write-made}
-use borrow.Author.Needs.{needs}
 use Rattle.calls.proofs.call.grid_write.Statement.{statement}
 use Rattle.calls.proofs.call.grid_write.Tie as tie
 
@@ -8,12 +8,12 @@ grid-write-spec =
     tie.close
     (tie.spec
     -- write-places-requires
-    (λ c κs. search needs)
+    (λ c κs. (lit≤ tt, lit≤ tt))
     -- returns
     (λ c. write-none _ _ _ 16 _ _ _ (c .before .before .write-places .ensures) (c .if1 .taken))
     -- take-grid-write-requires
     (λ c κs. (c .before .before .before .write-places .ensures .whole (c .before .if1 .left), c .before .before .before .before .before .before .pre))
     -- same-length
-    (λ c. search needs)
+    (λ c. c .before .before .take-grid-write .kept .1 .1 .0)
     -- returns-2
     (λ c. write-made _ _ _ 16 _ (c .before .before .before .before .before .before .write-places .ensures) (c .before .before .before .before .if1 .left) (c .before .before .take-grid-write .ensures)))

@@ -37,4 +37,6 @@ take-grid-read-spec =
     -- same-length
     (λ c. search needs)
     -- returns
-    (λ c. read-sizes 16 (sym (c .before .before .before .before .before .before .before .before .before .before .before .before .load-words2 .ensures .1 .0 .1) ∙ c .before .before .before .before .before .before .before .before .before .before .before .before .load-words2 .ensures .0) (c .before .before .before .answer-grid-read .ensures)))
+    (λ c.
+    let i = c .before .before .before .before .before .before .before .before .before .before .before .before .load-words2 in
+    read-sizes 16 (sym (i .ensures .1 .0 .1) ∙ i .ensures .0) (c .before .before .before .answer-grid-read .ensures)))

@@ -34,7 +34,9 @@ take-grid-write-spec =
     -- number-at-requires-2
     (λ c κs. search needs)
     -- number-at-requires-3
-    (λ c κs. let w = c .before .before .before .before .before .before .before .before .before .before .before .before .before .before .before .before .before .before .before .pre .0 in (omega arith, omega (arith, w .numbers, w .data-stands .size, w .data-stands .within)))
+    (λ c κs.
+    let w = c .before .before .before .before .before .before .before .before .before .before .before .before .before .before .before .before .before .before .before .pre .0 in
+    (omega arith, omega (arith, w .numbers, w .data-stands .size, w .data-stands .within)))
     -- array-share-prefix-wanted
     (λ c. search needs)
     -- slice-aggregate-answer-grid-write
@@ -56,8 +58,15 @@ take-grid-write-spec =
     -- slice-aggregate-answer-grid-write-5
     (λ c. search needs)
     -- answer-grid-write-requires
-    (λ c κs. let w = c .before .before .before .before .before .before .before .before .before .before .before .before .before .before .before .before .before .before .before .before .before .before .before .before .before .before .pre in let i = c .before .before .before .before .before .before .before .before .before .before .before .before .before .load-words4 in let j = c .before .before .before .before .before .before .before .before .before .before .load-bytes in (omega (arith, w .0 .cells-stand .few, i .ensures .0, i .ensures .1 .0 .1), (omega (arith, w .0 .others-stand .few, j .ensures .0, j .ensures .1 .0 .1), w .1)))
+    (λ c κs.
+    let w = c .before .before .before .before .before .before .before .before .before .before .before .before .before .before .before .before .before .before .before .before .before .before .before .before .before .before .pre in
+    let i = c .before .before .before .before .before .before .before .before .before .before .before .before .before .load-words4 in
+    let j = c .before .before .before .before .before .before .before .before .before .before .load-bytes in
+    (omega (arith, w .0 .cells-stand .few, i .ensures .0, i .ensures .1 .0 .1), (omega (arith, w .0 .others-stand .few, j .ensures .0, j .ensures .1 .0 .1), w .1)))
     -- same-length
     (λ c. search needs)
     -- returns
-    (λ c. write-sizes 16 (sym (c .before .before .before .before .before .before .before .before .before .before .before .before .before .before .before .before .before .before .load-words4 .ensures .1 .0 .1) ∙ c .before .before .before .before .before .before .before .before .before .before .before .before .before .before .before .before .before .before .load-words4 .ensures .0) (sym (c .before .before .before .before .before .before .before .before .before .before .before .before .before .before .before .load-bytes .ensures .1 .0 .1) ∙ c .before .before .before .before .before .before .before .before .before .before .before .before .before .before .before .load-bytes .ensures .0) (c .before .before .before .before .answer-grid-write .ensures)))
+    (λ c.
+    let i = c .before .before .before .before .before .before .before .before .before .before .before .before .before .before .before .before .before .before .load-words4 in
+    let j = c .before .before .before .before .before .before .before .before .before .before .before .before .before .before .before .load-bytes in
+    write-sizes 16 (sym (i .ensures .1 .0 .1) ∙ i .ensures .0) (sym (j .ensures .1 .0 .1) ∙ j .ensures .0) (c .before .before .before .before .answer-grid-write .ensures)))

@@ -27,4 +27,6 @@ take-pointer-read-spec =
     -- same-length
     (λ c. search needs)
     -- returns
-    (λ c. read-sizes 2 (sym (c .before .before .before .before .before .before .before .before .before .before .load-bytes .ensures .1 .0 .1) ∙ c .before .before .before .before .before .before .before .before .before .before .load-bytes .ensures .0) (c .before .before .before .answer-pointer-read .ensures)))
+    (λ c.
+    let i = c .before .before .before .before .before .before .before .before .before .before .load-bytes in
+    read-sizes 2 (sym (i .ensures .1 .0 .1) ∙ i .ensures .0) (c .before .before .before .answer-pointer-read .ensures)))

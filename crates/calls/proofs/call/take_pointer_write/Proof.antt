@@ -37,4 +37,7 @@ take-pointer-write-spec =
     -- same-length
     (λ c. search needs)
     -- returns
-    (λ c. write-sizes 2 (sym (c .before .before .before .before .before .before .before .before .before .before .before .before .before .before .before .before .load-bytes .ensures .1 .0 .1) ∙ c .before .before .before .before .before .before .before .before .before .before .before .before .before .before .before .before .load-bytes .ensures .0) (sym (c .before .before .before .before .before .before .before .before .before .before .before .before .before .load-bytes2 .ensures .1 .0 .1) ∙ c .before .before .before .before .before .before .before .before .before .before .before .before .before .load-bytes2 .ensures .0) (c .before .before .before .before .answer-pointer-write .ensures)))
+    (λ c.
+    let i = c .before .before .before .before .before .before .before .before .before .before .before .before .before .before .before .before .load-bytes in
+    let j = c .before .before .before .before .before .before .before .before .before .before .before .before .before .load-bytes2 in
+    write-sizes 2 (sym (i .ensures .1 .0 .1) ∙ i .ensures .0) (sym (j .ensures .1 .0 .1) ∙ j .ensures .0) (c .before .before .before .before .answer-pointer-write .ensures)))
