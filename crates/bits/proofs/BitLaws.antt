@@ -12,7 +12,7 @@ use lib.Arith.{lt-one, lt-of-le-ne}
 use lib.Bits.{bitAnd, bitOr, bitXor, differ, and-step, or-step, xor-step, and-shr, or-shr, xor-shr, or-shifted}
 use lib.Count.{ones, ones-step, under, trailingZeros}
 use lib.Dec.{eqb, leb, ltb}
-use lib.Pow.{pow-pos, pow-mono, pow-lt, field, mod-mod-pow, mod-pow-add, high, low, shl-exact, shr-shr, ones-split, ones-lt}
+use lib.Pow.{pow-pos, pow-mono, pow-lt, field, mod-mod-pow, mod-pow-add, high, low, shl-exact, shr-shr, ones-lt}
 use Rattle.bits.specs.Bits.{num, has, word, some, sum}
 use Rattle.bits.proofs.TestLaws.{clash, false-when, lt-or-le, leb-iff, iff-false, and-iff, num-lt, eqb-num, num-eqb, eqb-same}
 use Rattle.bits.proofs.BoundLaws.{some-in, some-out, some-iff, sum-ext, sum-front}
@@ -228,12 +228,6 @@ has-ones a j =
     (λ h. ap (λ x. has x j) (sym (word-ones a)) ∙ has-word a (λ _. true) j h ∙ sym (lt-ltb j a h))
     (λ h. has-high a (2 ^ a - 1) j (ones-lt a) h ∙ sym (le-ltb j a h))
     (lt-or-le j a)
-
--- the n lowest bits of 64, as all 64 shifted down
-pub lowest-bits : (n : ℕ) → n ≤ 64 → 18446744073709551615 / 2 ^ (64 - n) ≡ word n (λ _. true)
-lowest-bits n h =
-    let e : n + (64 - n) ≡ 64 = omega arith in
-    ap (λ x. x / 2 ^ (64 - n)) (ap (λ m. 2 ^ m - 1) (sym e) ∙ ones-split n (64 - n)) ∙ high (2 ^ n - 1) (64 - n) (ones-lt (64 - n)) ∙ sym (word-ones n)
 
 -- ---- the ones that the machine counts are the set bits
 

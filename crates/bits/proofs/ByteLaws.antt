@@ -105,10 +105,6 @@ pub length-bytes : (m : ℕ) (f : ℕ → Bool) → length (bytes m f) ≡ m
 unfolding bytes
 length-bytes m f = length-words m 8 (λ i k. f (8 * i + k))
 
-pub bytes-below : (m : ℕ) (f : ℕ → Bool) → Below 256 (bytes m f)
-unfolding bytes
-bytes-below m f = words-below m 8 (λ i k. f (8 * i + k))
-
 pub bytes-ext : (m : ℕ) (f g : ℕ → Bool) → ((p : ℕ) → p < 8 * m → f p ≡ g p) → bytes m f ≡ bytes m g
 unfolding bytes
 bytes-ext m f g e = words-ext m 8 (λ i k. f (8 * i + k)) (λ i k. g (8 * i + k)) (λ i k h l. e (8 * i + k) (omega arith))

@@ -1,11 +1,13 @@
 -- Laws of the levels one after the other: what each way to return says of the levels from a subgrid on. Assumes nothing.
 use mathlib.Core.Path.{_≡_, refl, sym, ap, ap₂, subst, _∙_}
-use mathlib.Core.Bool.{Bool, true, false, not, _&&_}
+use mathlib.Core.Bool.{Bool, true, false, not, _&&_, _||_}
 use mathlib.Core.List.{List}
 use mathlib.Core.Logic.{_≢_}
 use Prim.Native.Nat.{ℕ, zero, suc, _+_, _-_, _^_, _≤_, _<_, min}
 use native.Mathlib.Omega.{arith}
 use native.Mathlib.Numerals.{add-one}
+use borrow.Author.Tests.{eqb-true, eqb-false}
+use lib.Dec.{eqb}
 use lib.ListN.{length, getD, set, length-set, replicate}
 use lib.Seq.{getD-set-same, getD-set-other}
 use Rattle.bits.specs.Bits.{num, sum, has, word}
@@ -18,7 +20,8 @@ use Rattle.rdis.proofs.LevelLaws.{levels-none, levels-stop, levels-next, left-r
 use Rattle.rdis.proofs.CounterLaws.{Counts as Tallied, levels-counted}
 use Rattle.grid.specs.declared.levels.Sub.{Sub}
 use Rattle.grid.specs.declared.levels.Taken.{Taken}
-use Rattle.grid.specs.Steps.{blockOf, subgrid, times, crossings, Counts, Follows, Planned}
+use Rattle.counters.specs.Promises.{times}
+use Rattle.grid.specs.Steps.{blockOf, subgrid, crossings, Counts, Follows, Planned}
 
 -- ---- one set more
 
@@ -49,15 +52,11 @@ min-more false b r c p q = omega (arith, p refl)
 abbrev deeper : Sub → Taken → Taken
 deeper t r = record { ended = r .ended; used = r .used + 1; rows = set (r .rows) (r .used) (t .rows); columns = set (r .columns) (r .used) (t .columns) }
 
-more-lost : (t : Subgrid) (r : Taken) (o : Outcome) → r .ended ≡ false → Follows r o → Follows r (more t o)
-more-lost t r (masked l rc cc) e f = clash (f .ended) e
-more-lost t r unmaskable e f = f
-
-more-masked : (n : ℕ) (d mask values : List ℕ) (w : Bool) (t : Sub) (r : Taken) (o : Outcome) → r .ended ≡ true → r .used < length (r .rows) → r .used < length (r .columns)
+one-more : (n : ℕ) (d mask values : List ℕ) (w : Bool) (t : Sub) (r : Taken) (o : Outcome) → r .used < length (r .rows) → r .used < length (r .columns)
     → Tallied (blockOf n d mask values) w (subgrid t) o → Follows r o → Follows (deeper t r) (more (subgrid t) o)
-more-masked n d mask values w t r unmaskable e p q h f = clash e f
-more-masked n d mask values w t r (masked l rc cc) e p q h f = record {
-  ended = e;
+one-more n d mask values w t r unmaskable p q h f = f
+one-more n d mask values w t r (masked l rc cc) p q h f = record {
+  ended = f .ended;
   used = omega (arith, f .used);
   rows = λ i. times-more (r .rows) (r .used) (t .rows) i p ∙ ap (λ m. num (has (t .rows) i) + m) (f .rows i);
   columns = λ j. times-more (r .columns) (r .used) (t .columns) j q ∙ ap (λ m. num (has (t .columns) j) + m) (f .columns j);
@@ -82,7 +81,7 @@ module _ (d mask values : List ℕ) (w : Bool) (s t : Sub) (e : (n : ℕ) → s 
   some-left : (n : ℕ) → s .columns < 2 ^ n → (t .rows ≡ 0 → ⊥) → left (blockOf n d mask values) w (subgrid s) ≡ true
   some-left n h z = left-rows (blockOf n d mask values) w (subgrid s) .1 (λ q. z (rows-taken n h ∙ q))
 
-  pub planned-none : (k : ℕ) → t .rows ≡ 0 → Planned d mask values s w k (empty true)
+  planned-none : (k : ℕ) → t .rows ≡ 0 → Planned d mask values s w k (empty true)
   unfolding times crossings sum
   planned-none k z = record {
     few = omega arith;
@@ -94,13 +93,21 @@ module _ (d mask values : List ℕ) (w : Bool) (s t : Sub) (e : (n : ℕ) → s 
         rw (levels-none b k w (subgrid s) f) (record { ended = refl; used = refl; rows = λ i. refl; columns = λ j. refl; crossed = λ i j. refl });
   }
 
-  pub planned-stop : (k : ℕ) → (t .rows ≡ 0 → ⊥) → k ≡ 0 → Planned d mask values s w k (empty false)
+  planned-stop : (k : ℕ) → (t .rows ≡ 0 → ⊥) → k ≡ 0 → Planned d mask values s w k (empty false)
   planned-stop k z e₀ = record {
     few = omega arith;
     rowSets = refl;
     columnSets = refl;
     follows = λ n h. rw (e₀, levels-stop (blockOf n d mask values) w (subgrid s) (some-left n h z)) refl;
   }
+
+  -- no wrong cell is left, or no level is allowed
+  pub planned-end : (k : ℕ) → eqb (t .rows) 0 || eqb k 0 ≡ true → Planned d mask values s w k (empty (eqb (t .rows) 0))
+  planned-end k h = by (eqb (t .rows) 0) refl
+    where
+      by : (z : Bool) → eqb (t .rows) 0 ≡ z → Planned d mask values s w k (empty (eqb (t .rows) 0))
+      by true q = rw q (planned-none k (eqb-true (t .rows) 0 q))
+      by false q = rw q (planned-stop k (eqb-false (t .rows) 0 q) (eqb-true k 0 (rw q at h)))
 
   next : (n k : ℕ) → s .columns < 2 ^ n → (t .rows ≡ 0 → ⊥) → (k ≡ 0 → ⊥)
       → levels (blockOf n d mask values) k w (subgrid s) ≡ more (subgrid t) (levels (blockOf n d mask values) (k - 1) (not w) (subgrid t))
@@ -109,17 +116,8 @@ module _ (d mask values : List ℕ) (w : Bool) (s t : Sub) (e : (n : ℕ) → s 
       let q : suc k - 1 ≡ k = omega arith in
       levels-next (blockOf n d mask values) k w (subgrid s) (some-left n h z) ∙ rw (q, e n h)
 
-  pub planned-lost : (k : ℕ) (r : Taken) → (t .rows ≡ 0 → ⊥) → (k ≡ 0 → ⊥) → r .ended ≡ false → Planned d mask values t (not w) (k - 1) r → Planned d mask values s w k r
-  planned-lost k r z y f p = record {
-    few = omega (arith, p .few);
-    rowSets = p .rowSets;
-    columnSets = p .columnSets;
-    follows = λ n h. rw (next n k h z y) (more-lost (subgrid t) r (levels (blockOf n d mask values) (k - 1) (not w) (subgrid t)) f (p .follows n (narrow n h)));
-  }
-
-  pub planned-more : (k : ℕ) (r : Taken) → k ≤ 8 → (t .rows ≡ 0 → ⊥) → (k ≡ 0 → ⊥) → r .ended ≡ true → Planned d mask values t (not w) (k - 1) r
-      → Planned d mask values s w k (deeper t r)
-  planned-more k r m z y f p = record {
+  pub planned-more : (k : ℕ) (r : Taken) → k ≤ 8 → (t .rows ≡ 0 → ⊥) → (k ≡ 0 → ⊥) → Planned d mask values t (not w) (k - 1) r → Planned d mask values s w k (deeper t r)
+  planned-more k r m z y p = record {
     few = omega (arith, p .few);
     rowSets = length-set (r .rows) (r .used) (t .rows) ∙ p .rowSets;
     columnSets = length-set (r .columns) (r .used) (t .columns) ∙ p .columnSets;
@@ -127,13 +125,26 @@ module _ (d mask values : List ℕ) (w : Bool) (s t : Sub) (e : (n : ℕ) → s 
         let b = blockOf n d mask values in
         let o = levels b (k - 1) (not w) (subgrid t) in
         rw (next n k h z y)
-        (more-masked n d mask values (not w) t r o f (omega (arith, p .few, p .rowSets)) (omega (arith, p .few, p .columnSets)) (levels-counted b (k - 1) (not w) (subgrid t)) (p .follows n (narrow n h)));
+        (one-more n d mask values (not w) t r o (omega (arith, p .few, p .rowSets)) (omega (arith, p .few, p .columnSets)) (levels-counted b (k - 1) (not w) (subgrid t)) (p .follows n (narrow n h)));
   }
 
+-- where it goes on, a wrong cell is left and a level is allowed
+pub goes-on : (x k : ℕ) → eqb x 0 || eqb k 0 ≡ false → (x ≡ 0 → ⊥) × (k ≡ 0 → ⊥)
+goes-on x k h = by (eqb x 0) refl
+  where
+    by : (z : Bool) → eqb x 0 ≡ z → (x ≡ 0 → ⊥) × (k ≡ 0 → ⊥)
+    by true q = clash refl (rw q at h)
+    by false q = (eqb-false x 0 q, eqb-false k 0 (rw q at h))
+
 -- from the whole grid on
-pub planned-whole : (n k : ℕ) (d mask values : List ℕ) (s : Sub) (t : Taken) → s .rows ≡ word (length d) (λ _. true) → s .columns ≡ word n (λ _. true)
+pub planned-whole : (n k : ℕ) (d mask values : List ℕ) (s : Sub) (t : Taken) → length d ≤ 64 → n ≤ 64
+    → s .rows ≡ word (min (length d) 64) (λ _. true) → s .columns ≡ word (min n 64) (λ _. true)
     → Planned d mask values s true k t → (t .used ≤ k) × Follows t (plan (blockOf n d mask values) k)
 unfolding plan whole
-planned-whole n k d mask values s t p q h =
-    let e : subgrid s ≡ whole (blockOf n d mask values) = λ i. record { rows = p i; columns = q i } in
-    (h .few, subst (λ x. Follows t (levels (blockOf n d mask values) k true x)) e (h .follows n (rw q (word-lt n (λ _. true)))))
+planned-whole n k d mask values s t a b p q h =
+    let mm : min (length d) 64 ≡ length d = omega arith in
+    let mn : min n 64 ≡ n = omega arith in
+    let p′ : s .rows ≡ word (length d) (λ _. true) = p ∙ ap (λ m. word m (λ _. true)) mm in
+    let q′ : s .columns ≡ word n (λ _. true) = q ∙ ap (λ m. word m (λ _. true)) mn in
+    let e : subgrid s ≡ whole (blockOf n d mask values) = λ i. record { rows = p′ i; columns = q′ i } in
+    (h .few, subst (λ x. Follows t (levels (blockOf n d mask values) k true x)) e (h .follows n (rw q′ (word-lt n (λ _. true)))))

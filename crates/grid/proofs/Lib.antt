@@ -1,8 +1,6 @@
-pub mod JudgeLaws
 pub mod LevelLaws
 pub mod DescendLaws
 pub mod CountLaws
-pub mod PackLaws
 pub mod PatternLaws
 pub mod Returns
 pub mod WriteLaws

@@ -16,14 +16,6 @@ use Rattle.bits.proofs.ByteLaws.{words-more, words-done}
 use Rattle.rdis.specs.Block.{bit}
 use Rattle.grid.specs.Steps.{crossings, heldBy, shownBy}
 
--- ---- what a cell shows
-
-pub shown-plain : (f b : Bool) → f ≡ false → b ≡ xor f b
-shown-plain f b e = rw e (sym (xor-false b))
-
-pub shown-other : (f b : Bool) → f ≡ true → not b ≡ xor f b
-shown-other f b e = rw e (sym (xor-true b))
-
 -- ---- the parity of crossings
 
 odd-next : (n d : ℕ) → n % 2 ≡ d → not (eqb (n % 2) 1) ≡ eqb ((1 + n) % 2) 1

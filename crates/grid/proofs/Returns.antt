@@ -1,88 +1,116 @@
 -- What a code proof cites at each return of a read and of a write: from the tests' values there to the whole promise. Assumes nothing.
-use Prim.Native.Nat.{ℕ, _+_, _%_, _<_, min}
+use Prim.Native.Nat.{ℕ, _+_, _-_, _%_, _<_, min}
 use mathlib.Core.Path.{_≡_, refl, sym, ap, ap₂, subst, _∙_}
-use mathlib.Core.Bool.{true, false, xor}
-use mathlib.Core.List.{List, _++_}
+use mathlib.Core.Bool.{Bool, true, false, not, xor, cond, _&&_}
+use mathlib.Core.List.{List}
 use native.Mathlib.Omega.{arith}
-use lib.ListN.{length, getD, List·getD-append}
-use lib.Dec.{eqb, ltb}
-use Rattle.bits.specs.Bits.{some, words}
-use Rattle.bits.proofs.BoundLaws.{some-ext, length-list}
+use borrow.Author.Tests.{eq-eqb}
+use lib.ListN.{length, getD, replicate, List·getD-append}
+use lib.Dec.{eqb}
+use Rattle.bits.proofs.BoundLaws.{length-list}
 use Rattle.bits.proofs.ByteLaws.{words-ext}
 use Rattle.rdis.specs.Block.{Block, bit, faults}
 use Rattle.rdis.specs.Levels.{masked, unmaskable, plan}
 use Rattle.rdis.specs.Cells.{flips, stored, reading}
-use Rattle.rdis.specs.Packing.{width, bytesFor, inOrder, packed, counter, unpacked, spareClear}
+use Rattle.rdis.specs.Packing.{width, bytesFor, inOrder, packed, counter, unpacked}
 use Rattle.rdis.proofs.PackingLaws.{counter-unpacked}
-use Rattle.gridcalls.specs.Calls.{inRange, past, readSized, above, writeSized, block, writePast, readNumber, writeNumber}
+use Rattle.counters.specs.Promises.{fit, above as countersAbove, unpackNumber, Unpack}
+use Rattle.counters.specs.declared.Counters.{Counters}
+use Rattle.counters.proofs.PromiseLaws.{fit-few}
+use Rattle.gridcalls.specs.Calls.{inRange, sized, past, readSized, above as gridAbove, writeSized, block, writePast, readNumber, writeNumber}
 use Rattle.gridcalls.specs.Refusals.{ReadLengths, WriteLengths}
 use Rattle.gridcalls.specs.Promises.{Read, Write}
-use Rattle.grid.specs.Steps.{ReadSized, WriteSized}
+use Rattle.gridjudge.specs.Numbers.{judged, readJudged, writeJudged}
+use Rattle.grid.specs.Steps.{ReadSized, WriteSized, shownBy}
 use Rattle.gridcalls.specs.declared.ReadAnswer.{ReadAnswer}
 use Rattle.gridcalls.specs.declared.WriteAnswer.{WriteAnswer}
-use Rattle.gridcalls.proofs.RefusalLaws.{read-sized, write-sized}
+use Rattle.gridcalls.proofs.RefusalLaws.{in-range, read-sized, write-sized}
 use Rattle.gridcalls.proofs.Demands.{read-demands, write-demands}
+
+-- ---- numbers and lengths
+
+-- by whether numbers are in range and lengths right: a refusal stands, whatever else would be judged; and none lets the call go on
+stands : (r s : Bool) (y : ℕ) → (cond {A = ℕ} (not r) 1 (cond s 0 2) ≡ 0 → ⊥) → cond {A = ℕ} (not r) 1 (cond s 0 2) ≡ cond (not r) 1 (cond (not s) 2 y)
+stands true true y h = absurd (h refl)
+stands true false y h = refl
+stands false s y h = refl
+
+passes : (r s : Bool) → cond {A = ℕ} (not r) 1 (cond s 0 2) ≡ 0 → (r ≡ true) × (s ≡ true)
+passes true true h = (refl, refl)
+passes true false h = absurd (omega arith)
+passes false s h = absurd (omega arith)
 
 -- ---- a read
 
+turned : (x y : Bool) → x && y ≡ y && x
+turned true true = refl
+turned true false = refl
+turned false true = refl
+turned false false = refl
+
 module _ (m n k : ℕ) (cells counters out : List ℕ) where
-  refused-read : (x : ℕ) → 0 < x → x ≡ readNumber m n k cells counters (length out) → Read m n k cells counters out (record { number = x }) out
-  refused-read x l e = read-demands m n k cells counters out (record { number = x }) out (record { number = e; untouched = λ _. refl; shown = λ z. absurd (omega arith) })
+  refused-read : (x : ℕ) → (x ≡ 0 → ⊥) → x ≡ readNumber m n k cells counters (length out) → Read m n k cells counters out (record { number = x }) out
+  refused-read x l e = read-demands m n k cells counters out (record { number = x }) out (record { number = e; untouched = λ _. refl; shown = λ z. absurd (l z) })
 
-  pub read-out-of-range : inRange m n k ≡ false → Read m n k cells counters out (record { number = 1 }) out
-  unfolding readNumber
-  read-out-of-range h = refused-read 1 (omega arith) (rw h)
+  module _ (x : ℕ) (e : x ≡ readJudged m n k (length cells) (length counters) (length out)) where
+    by-tests : x ≡ cond (not (inRange m n k)) 1 (cond (readSized m n k (length cells) (length counters) (length out)) 0 2)
+    unfolding judged
+    by-tests = e ∙ ap (λ t. cond {A = ℕ} (not (inRange m n k)) 1 (cond t 0 2)) (turned (eqb (length out) m) (sized m n k (length cells) (length counters)))
 
-  pub read-not-sized : inRange m n k ≡ true → readSized m n k (length cells) (length counters) (length out) ≡ false
-      → Read m n k cells counters out (record { number = 2 }) out
-  unfolding readNumber
-  read-not-sized h s = refused-read 2 (omega arith) (rw (h, s))
-
-  -- tests that hold let a function go on that knows the rows by the words alone; and what it promises is promised of the rows
-  module _ (tested : readSized m n k (length cells) (length counters) (length out) ≡ true) where
-    read-lengths : ReadLengths m n k (length cells) (length counters) (length out)
-    read-lengths = read-sized m n k (length cells) (length counters) (length out) .0 tested
-
-    pub read-goes-on : inRange m n k ≡ true → ReadSized n k cells counters out
-    read-goes-on h = let e = read-lengths .cellWords in record { ranges = rw e h; sizes = rw e (read-lengths .counterBytes); room = read-lengths .outWords ∙ sym e }
-
-    pub read-comes-back : (a : ReadAnswer) (after : List ℕ) → Read (length cells) n k cells counters out a after → Read m n k cells counters out a after
-    read-comes-back a after r = subst (λ x. Read x n k cells counters out a after) (read-lengths .cellWords) r
-
-  module _ (ranges : inRange m n k ≡ true) (rows : length cells ≡ m) (size : length counters ≡ bytesFor (width k) (m + n)) (room : length out ≡ m) where
-    sizes : readSized m n k (length cells) (length counters) (length out) ≡ true
-    sizes = read-sized m n k (length cells) (length counters) (length out) .1 (record { cellWords = rows; counterBytes = size; outWords = room })
-
-    pub read-past : past n cells ≡ true → Read m n k cells counters out (record { number = 3 }) out
+    pub read-judged : (x ≡ 0 → ⊥) → Read m n k cells counters out (record { number = x }) out
     unfolding readNumber
-    read-past h = refused-read 3 (omega arith) (rw (ranges, sizes, h))
+    read-judged h = refused-read x h (by-tests ∙ stands (inRange m n k) (readSized m n k (length cells) (length counters) (length out)) _ (λ z. h (by-tests ∙ z)))
 
-    pub read-spare : past n cells ≡ false → spareClear (width k) (m + n) counters ≡ false → Read m n k cells counters out (record { number = 3 }) out
-    unfolding readNumber
-    read-spare h s = refused-read 3 (omega arith) (rw (ranges, sizes, h, s))
+    -- numbers and lengths that are right let a function go on that knows the rows by the words alone; and what it promises is promised of the rows
+    module _ (z : x ≡ 0) where
+      right : (inRange m n k ≡ true) × (readSized m n k (length cells) (length counters) (length out) ≡ true)
+      right = passes (inRange m n k) (readSized m n k (length cells) (length counters) (length out)) (sym by-tests ∙ z)
 
-    module _ (within : past n cells ≡ false) (clear : spareClear (width k) (m + n) counters ≡ true) (c rest : List ℕ) (e : c ≡ unpacked (width k) (m + n) counters ++ rest) where
-      counter-is : (t : ℕ) → t < m + n → getD c t 0 ≡ counter (width k) counters t
-      unfolding unpacked
-      counter-is t l = rw e (List·getD-append (unpacked (width k) (m + n) counters) rest 0 t (rw length-list l) ∙ counter-unpacked (width k) (m + n) t counters l)
+      read-lengths : ReadLengths m n k (length cells) (length counters) (length out)
+      read-lengths = read-sized m n k (length cells) (length counters) (length out) .0 (right .1)
 
-      above-is : some (m + n) (λ t. ltb k (getD c t 0)) ≡ above m n k counters
-      unfolding above
-      above-is = some-ext (m + n) _ _ (λ t l. ap (ltb k) (counter-is t l))
+      pub read-goes-on : ReadSized n k cells counters out
+      read-goes-on = let l = read-lengths in record { ranges = rw (l .cellWords) (right .0); sizes = rw (l .cellWords) (l .counterBytes); room = l .outWords ∙ sym (l .cellWords) }
 
-      pub read-above : some (m + n) (λ t. ltb k (getD c t 0)) ≡ true → Read m n k cells counters out (record { number = 4 }) out
-      unfolding readNumber
-      read-above h = refused-read 4 (omega arith) (rw (ranges, sizes, within, clear, ← above-is, h))
+      pub read-comes-back : (a : ReadAnswer) (after : List ℕ) → Read (length cells) n k cells counters out a after → Read m n k cells counters out a after
+      read-comes-back a after r = subst (λ y. Read y n k cells counters out a after) (read-lengths .cellWords) r
 
-      pub accepted-read : (after : List ℕ) → some (m + n) (λ t. ltb k (getD c t 0)) ≡ false
-          → after ≡ words m n (λ i j. xor (eqb (min (getD c i 0) (getD c (m + j) 0) % 2) 1) (bit cells i j))
-          → Read m n k cells counters out (record { number = 0 }) after
-      unfolding readNumber reading flips
-      accepted-read after h s = read-demands m n k cells counters out (record { number = 0 }) after (record {
-        number = rw (ranges, sizes, within, clear, ← above-is, h);
-        untouched = λ l. absurd (omega arith);
-        shown = λ _. s ∙ words-ext m n _ _ (λ i j p q. ap₂ (λ x y. xor (eqb (min x y % 2) 1) (bit cells i j)) (counter-is i (omega arith)) (counter-is (m + j) (omega arith)));
-      })
+-- the counters of a block in range take the bytes that they should
+pub fits-in : (m n k : ℕ) (counters : List ℕ) → inRange m n k ≡ true → length counters ≡ bytesFor (width k) (m + n) → fit k (m + n) (length counters) ≡ true
+fits-in m n k counters h e =
+    let r = in-range m n k .0 h in
+    sym (fit-few k (m + n) (length counters) (omega (arith, r .rows .1, r .columns .1))) ∙ eq-eqb (length counters) (bytesFor (width k) (m + n)) e
+
+module _ (n k : ℕ) (cells counters out : List ℕ) (p : ReadSized n k cells counters out) where
+  sizes : readSized (length cells) n k (length cells) (length counters) (length out) ≡ true
+  sizes = read-sized (length cells) n k (length cells) (length counters) (length out) .1 (record { cellWords = refl; counterBytes = p .sizes; outWords = p .room })
+
+  pub read-past : past n cells ≡ true → Read (length cells) n k cells counters out (record { number = 3 }) out
+  unfolding readNumber
+  read-past h = refused-read (length cells) n k cells counters out 3 (λ z. omega arith) (rw (p .ranges, sizes, h))
+
+  -- within the columns the counters decide
+  module _ (within : past n cells ≡ false) (c : Counters) (u : Unpack k (length cells + n) counters c) where
+    number-is : c .number ≡ readNumber (length cells) n k cells counters (length out)
+    unfolding readNumber unpackNumber gridAbove countersAbove
+    number-is = u .number ∙ rw (fits-in (length cells) n k counters (p .ranges) (p .sizes), p .ranges, sizes, within)
+
+    pub read-refused : (c .number ≡ 0 → ⊥) → Read (length cells) n k cells counters out (record { number = c .number }) out
+    read-refused h = refused-read (length cells) n k cells counters out (c .number) h number-is
+
+    counter-is : (t : ℕ) → t < length cells + n → getD (c .held) t 0 ≡ counter (width k) counters t
+    unfolding unpacked
+    counter-is t l =
+        rw (u .counters (fits-in (length cells) n k counters (p .ranges) (p .sizes)))
+        (List·getD-append (unpacked (width k) (length cells + n) counters) (replicate (128 - (length cells + n)) 0) 0 t (rw length-list l) ∙ counter-unpacked (width k) (length cells + n) t counters l)
+
+    pub accepted-read : (after : List ℕ) → c .number ≡ 0 → after ≡ shownBy n (c .held) cells → Read (length cells) n k cells counters out (record { number = c .number }) after
+    unfolding shownBy reading flips
+    accepted-read after z s = read-demands (length cells) n k cells counters out (record { number = c .number }) after (record {
+      number = number-is;
+      untouched = λ l. absurd (omega (arith, z));
+      shown = λ _. s ∙ words-ext (length cells) n _ _ (λ i j q r. ap₂ (λ x y. xor (eqb (min x y % 2) 1) (bit cells i j)) (counter-is i (omega arith)) (counter-is (length cells + j) (omega arith)));
+    })
 
 -- ---- a write
 
@@ -91,27 +119,16 @@ abbrev pub Refuses : ℕ → WriteAnswer → Type 0
 Refuses x a = (a .number ≡ x) × (a .levels ≡ 0) × (a .faults ≡ 0)
 
 module _ (b : Block) (k : ℕ) (cells counters : List ℕ) (a : WriteAnswer) where
-  refused-write : (x : ℕ) → 0 < x → x ≡ writeNumber b k (length cells) (length counters) → Refuses x a → Write b k cells counters a cells counters
+  refused-write : (x : ℕ) → (x ≡ 0 → ⊥) → x ≡ writeNumber b k (length cells) (length counters) → Refuses x a → Write b k cells counters a cells counters
   refused-write x l e (n, u, v) =
-      let above : 0 < a .number = omega arith in
       write-demands b k cells counters a cells counters (record {
         number = n ∙ e;
         untouched = λ _. (u, v, refl, refl);
-        cellsAre = λ z. absurd (omega arith);
-        countersAre = λ z. absurd (omega arith);
-        levelsAre = λ z. absurd (omega arith);
-        faultsAre = λ z. absurd (omega arith);
+        cellsAre = λ z. absurd (l (sym n ∙ z));
+        countersAre = λ z. absurd (l (sym n ∙ z));
+        levelsAre = λ z. absurd (l (sym n ∙ z));
+        faultsAre = λ z. absurd (l (sym n ∙ z));
       })
-
-  pub write-out-of-range : inRange (b .rows) (b .columns) k ≡ false → Refuses 1 a → Write b k cells counters a cells counters
-  unfolding writeNumber
-  write-out-of-range h r = refused-write 1 (omega arith) (rw h) r
-
-  pub write-not-sized : inRange (b .rows) (b .columns) k ≡ true
-      → writeSized b k (length cells) (length counters) ≡ false
-      → Refuses 2 a → Write b k cells counters a cells counters
-  unfolding writeNumber
-  write-not-sized h s r = refused-write 2 (omega arith) (rw (h, s)) r
 
   module _ (ranges : inRange (b .rows) (b .columns) k ≡ true) (wants : length (b .data·) ≡ b .rows) (masks : length (b .mask) ≡ b .rows)
       (stuckAt : length (b .values) ≡ b .rows) (room : length cells ≡ b .rows) (sizes : length counters ≡ bytesFor (width k) (b .rows + b .columns)) where
@@ -120,12 +137,12 @@ module _ (b : Block) (k : ℕ) (cells counters : List ℕ) (a : WriteAnswer) whe
 
     pub write-past : writePast b ≡ true → Refuses 3 a → Write b k cells counters a cells counters
     unfolding writeNumber
-    write-past h r = refused-write 3 (omega arith) (rw (ranges, lengths-right, h)) r
+    write-past h r = refused-write 3 (λ z. omega arith) (rw (ranges, lengths-right, h)) r
 
     module _ (within : writePast b ≡ false) where
       pub write-unmaskable : plan b k ≡ unmaskable → Refuses 7 a → Write b k cells counters a cells counters
       unfolding writeNumber
-      write-unmaskable p r = refused-write 7 (omega arith) (rw (ranges, lengths-right, within, p)) r
+      write-unmaskable p r = refused-write 7 (λ z. omega arith) (rw (ranges, lengths-right, within, p)) r
 
       pub accepted-write : (l : ℕ) (r c : ℕ → ℕ) → plan b k ≡ masked l r c → (cells′ counters′ : List ℕ)
           → a .number ≡ 0 → a .levels ≡ l → a .faults ≡ faults (b .rows) (b .mask)
@@ -141,16 +158,36 @@ module _ (b : Block) (k : ℕ) (cells counters : List ℕ) (a : WriteAnswer) whe
         faultsAre = λ _. y;
       })
 
-module _ (m n k : ℕ) (d mask values cells counters : List ℕ) (tested : writeSized (block m n d mask values) k (length cells) (length counters) ≡ true) where
-  write-lengths : WriteLengths (block m n d mask values) k (length cells) (length counters)
-  write-lengths = write-sized (block m n d mask values) k (length cells) (length counters) .0 tested
+regrouped : (x y z s : Bool) → (x && (y && z)) && s ≡ x && (y && (z && s))
+regrouped true true z s = refl
+regrouped true false z s = refl
+regrouped false y z s = refl
 
-  pub write-goes-on : inRange m n k ≡ true → WriteSized n k d mask values cells counters
-  write-goes-on h =
-      let l = write-lengths in
-      let e = l .dataWords in
-      record { ranges = rw e h; masks = l .maskWords ∙ sym e; stuckAt = l .valueWords ∙ sym e; room = l .cellWords ∙ sym e; sizes = rw e (l .counterBytes) }
+module _ (m n k : ℕ) (d mask values cells counters : List ℕ) (x : ℕ) (e : x ≡ writeJudged m n k (length d) (length mask) (length values) (length cells) (length counters)) where
+  by-lengths : x ≡ cond (not (inRange m n k)) 1 (cond (writeSized (block m n d mask values) k (length cells) (length counters)) 0 2)
+  unfolding judged
+  by-lengths =
+      e ∙ ap (λ t. cond {A = ℕ} (not (inRange m n k)) 1 (cond t 0 2)) (regrouped (eqb (length d) m) (eqb (length mask) m) (eqb (length values) m) (sized m n k (length cells) (length counters)))
 
-  pub write-comes-back : (a : WriteAnswer) (cells′ counters′ : List ℕ) → Write (block (length d) n d mask values) k cells counters a cells′ counters′
-      → Write (block m n d mask values) k cells counters a cells′ counters′
-  write-comes-back a cells′ counters′ w = subst (λ x. Write (block x n d mask values) k cells counters a cells′ counters′) (write-lengths .dataWords) w
+  pub write-judged : (a : WriteAnswer) → (x ≡ 0 → ⊥) → Refuses x a → Write (block m n d mask values) k cells counters a cells counters
+  unfolding writeNumber
+  write-judged a h r =
+      refused-write (block m n d mask values) k cells counters a x h
+      (by-lengths ∙ stands (inRange m n k) (writeSized (block m n d mask values) k (length cells) (length counters)) _ (λ z. h (by-lengths ∙ z))) r
+
+  module _ (z : x ≡ 0) where
+    right-too : (inRange m n k ≡ true) × (writeSized (block m n d mask values) k (length cells) (length counters) ≡ true)
+    right-too = passes (inRange m n k) (writeSized (block m n d mask values) k (length cells) (length counters)) (sym by-lengths ∙ z)
+
+    write-lengths : WriteLengths (block m n d mask values) k (length cells) (length counters)
+    write-lengths = write-sized (block m n d mask values) k (length cells) (length counters) .0 (right-too .1)
+
+    pub write-goes-on : WriteSized n k d mask values cells counters
+    write-goes-on =
+        let l = write-lengths in
+        let w = l .dataWords in
+        record { ranges = rw w (right-too .0); masks = l .maskWords ∙ sym w; stuckAt = l .valueWords ∙ sym w; room = l .cellWords ∙ sym w; sizes = rw w (l .counterBytes) }
+
+    pub write-comes-back : (a : WriteAnswer) (cells′ counters′ : List ℕ) → Write (block (length d) n d mask values) k cells counters a cells′ counters′
+        → Write (block m n d mask values) k cells counters a cells′ counters′
+    write-comes-back a cells′ counters′ w = subst (λ y. Write (block y n d mask values) k cells counters a cells′ counters′) (write-lengths .dataWords) w

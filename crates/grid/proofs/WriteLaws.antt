@@ -17,12 +17,14 @@ use Rattle.rdis.specs.Cells.{flips, holds, stored}
 use Rattle.rdis.specs.Packing.{width, inOrder, packed}
 use Rattle.rdis.specs.Theorems.{Masked}
 use Rattle.rdis.proofs.CounterLaws.{counters-outside}
-use Rattle.rdis.proofs.PackingLaws.{plan-below, width-holds}
+use Rattle.rdis.proofs.PackingLaws.{width-holds}
 use Rattle.gridcalls.specs.declared.WriteAnswer.{WriteAnswer}
 use Rattle.grid.specs.declared.levels.Taken.{Taken}
 use Rattle.gridcalls.specs.Calls.{past, writePast}
 use Rattle.gridcalls.specs.Promises.{Write}
-use Rattle.grid.specs.Steps.{blockOf, WriteSized, times, crossings, Counts, Follows, heldBy}
+use Rattle.counters.specs.Promises.{times, packable, Pack}
+use Rattle.counters.proofs.PromiseLaws.{can-pack}
+use Rattle.grid.specs.Steps.{blockOf, WriteSized, crossings, Counts, Follows, heldBy}
 use Rattle.gridcalls.proofs.RefusalLaws.{in-range, within}
 use Rattle.grid.proofs.Returns.{accepted-write}
 
@@ -55,9 +57,6 @@ module _ (n k : ℕ) (d mask values : List ℕ) (t : Taken) (f : Found t (plan (
   counters-plan =
       ap₂ _++_ (list-ext (length d) (times (t .rows) (t .used)) (f .r) (λ i _. f .counts .rows i)) (list-ext n (times (t .columns) (t .used)) (f .c) (λ j _. f .counts .columns j))
 
-  pub counters-fit : k ≤ 3 → Below (2 ^ width k) (inOrder (length d) n (times (t .rows) (t .used)) (times (t .columns) (t .used)))
-  counters-fit h = rw counters-plan (plan-below (blockOf n d mask values) k (f .l) (f .r) (f .c) (f .masks) (2 ^ width k) (width-holds k h))
-
   module _ (narrow : n ≤ 64) (hd : Below (2 ^ n) d) (hm : Below (2 ^ n) mask) where
     cell-inside : (i j : ℕ) → heldBy d mask values (t .rows) (t .columns) (t .used) i j ≡ holds (blockOf n d mask values) (f .r) (f .c) i j
     unfolding heldBy holds flips
@@ -77,15 +76,23 @@ module _ (n k : ℕ) (d mask values : List ℕ) (t : Taken) (f : Found t (plan (
 
 -- ---- the write
 
+-- there is room for the counters of the levels that were used
+has-room : (n k : ℕ) (d mask values cells counters : List ℕ) → WriteSized n k d mask values cells counters → (used : ℕ) → used ≤ k → packable k (length d) n used (length counters) ≡ true
+has-room n k d mask values cells counters s used h =
+    let r = in-range (length d) n k .0 (s .ranges) in
+    can-pack k (length d) n used (length counters)
+    (record { rows = r .rows .1; columns = r .columns .1; levels = omega (arith, r .levels .1); bits = omega (arith, width-holds k (r .levels .1)); size = s .sizes })
+
 pub wrote : (n k : ℕ) (d mask values cells counters : List ℕ) → WriteSized n k d mask values cells counters → writePast (blockOf n d mask values) ≡ false
-    → (t : Taken) → Follows t (plan (blockOf n d mask values) k) → t .ended ≡ true
-    → (a : WriteAnswer) (cells′ counters′ put : List ℕ) → a .number ≡ 0 → a .levels ≡ t .used → a .faults ≡ faults (length mask) mask
+    → (t : Taken) → (t .used ≤ k) × Follows t (plan (blockOf n d mask values) k) → t .ended ≡ true
+    → (a : WriteAnswer) (cells′ counters′ : List ℕ) → a .number ≡ 0 → a .levels ≡ t .used → a .faults ≡ faults (length mask) mask
     → cells′ ≡ words (length d) 64 (heldBy d mask values (t .rows) (t .columns) (t .used))
-    → put ≡ inOrder (length d) n (times (t .rows) (t .used)) (times (t .columns) (t .used)) → counters′ ≡ packed (width k) put
+    → Pack k (length d) n (t .used) (t .rows) (t .columns) counters counters′
     → Write (blockOf n d mask values) k cells counters a cells′ counters′
-wrote n k d mask values cells counters s p t h e a cells′ counters′ put z x y u v w =
+wrote n k d mask values cells counters s p t (few, h) e a cells′ counters′ z x y u v =
     let b = blockOf n d mask values in
     let f = found t (plan b k) h e in
     let (pd, pm, _) = none-of (past n d) (past n mask) (past n values) p in
     accepted-write b k cells counters a (s .ranges) refl (s .masks) (s .stuckAt) (s .room) (s .sizes) p (f .l) (f .r) (f .c) (f .masks) cells′ counters′ z (x ∙ f .counts .used) (y ∙ ap (λ m. faults m mask) (s .masks))
-    (u ∙ cells-plan n k d mask values t f (in-range (length d) n k .0 (s .ranges) .columns .1) (within n d .0 pd) (within n mask .0 pm)) (w ∙ ap (packed (width k)) (v ∙ counters-plan n k d mask values t f))
+    (u ∙ cells-plan n k d mask values t f (in-range (length d) n k .0 (s .ranges) .columns .1) (within n d .0 pd) (within n mask .0 pm))
+    (v .bytes (has-room n k d mask values cells counters s (t .used) few) ∙ ap (packed (width k)) (counters-plan n k d mask values t f))

@@ -9,6 +9,7 @@ use Rattle.bits.specs.Bits.{num, sum, has, words}
 use Rattle.rdis.specs.Block.{Block, bit}
 use Rattle.rdis.specs.Levels.{Subgrid, Outcome, masked, unmaskable, levels}
 use Rattle.rdis.specs.Packing.{width, bytesFor}
+use Rattle.counters.specs.Promises.{times}
 use Rattle.gridcalls.specs.Calls.{block, inRange}
 use Rattle.grid.specs.declared.levels.Sub.{Sub}
 use Rattle.grid.specs.declared.levels.Taken.{Taken}
@@ -38,10 +39,6 @@ pub record Rows (d mask values : List ℕ) : Type 0 where
 
 abbrev pub subgrid : Sub → Subgrid
 subgrid s = record { rows = s .rows; columns = s .columns }
-
--- how many of the first n sets have i
-unfoldable pub times : List ℕ → ℕ → ℕ → ℕ
-times sets n i = sum n (λ m. num (has (getD sets m 0) i))
 
 -- how many of the first n pairs of sets have i and j
 unfoldable pub crossings : List ℕ → List ℕ → ℕ → ℕ → ℕ → ℕ

@@ -1,14 +1,12 @@
 // The levels of a write, over sets of rows and columns held as bits of words.
 ghost use mathlib.Core.Path.{_≡_};
 ghost use mathlib.Core.Bool.{true, not, xor, cond, _&&_};
-ghost use mathlib.Core.List.{_++_};
-ghost use Prim.Native.Nat.{ℕ, _+_, _*_, _^_, _<_, _≤_};
-ghost use lib.ListN.{length, take};
-ghost use Rattle.bits.specs.Bits.{num, has, list};
+ghost use Prim.Native.Nat.{ℕ, _*_, _^_, _<_, _≤_};
+ghost use lib.ListN.{length};
+ghost use Rattle.bits.specs.Bits.{num, has};
 ghost use Rattle.rdis.specs.Block.{faulty, faults as maskOnes};
 ghost use Rattle.rdis.specs.Levels.{taken, plan as planOf};
-ghost use Rattle.rdis.specs.Packing.{inOrder};
-ghost use Rattle.grid.specs.Steps.{blockOf, Rows, subgrid, times as timesIn, Follows, Planned};
+ghost use Rattle.grid.specs.Steps.{blockOf, Rows, subgrid, Follows, Planned};
 
 // Rows and columns of a subgrid.
 pub struct Sub {
@@ -69,33 +67,21 @@ fn take_level(data: &[u64], mask: &[u64], values: &[u64], s: Sub, wrong: bool) -
     Sub { rows, columns }
 }
 
-// The levels from a subgrid on: the same question asked again of what was taken, in the other sense.
+// The levels from a subgrid on: the same question asked again of what was taken, in the other sense. Where they do not end, nobody reads the sets.
 fn descend(data: &[u64], mask: &[u64], values: &[u64], s: Sub, wrong: bool, allowed: usize) -> Taken
     requires { ⌜ (Rows (now «data») (now mask) (now values)) × (allowed ≤ 8) ⌝ }
     ensures { λ r. ⌜ Planned (now («data» .entry)) (now (mask .entry)) (now (values .entry)) s wrong allowed r ⌝ }
 {
     let t = take_level(data, mask, values, s, wrong);
-    let none = [0u64; 8];
-    if t.rows == 0 {
+    if (t.rows == 0) | (allowed == 0) {
         return Taken {
-            ended: true,
+            ended: t.rows == 0,
             used: 0,
-            rows: none,
-            columns: none,
-        };
-    }
-    if allowed == 0 {
-        return Taken {
-            ended: false,
-            used: 0,
-            rows: none,
-            columns: none,
+            rows: [0u64; 8],
+            columns: [0u64; 8],
         };
     }
     let mut r = descend(data, mask, values, t, !wrong, allowed - 1);
-    if !r.ended {
-        return r;
-    }
     let n = r.used;
     r.rows[n] = t.rows;
     r.columns[n] = t.columns;
@@ -109,54 +95,10 @@ pub fn plan(columns: usize, k: usize, data: &[u64], mask: &[u64], values: &[u64]
     ensures { λ r. ⌜ (r .used ≤ k) × Follows r (planOf (blockOf columns (now («data» .entry)) (now (mask .entry)) (now (values .entry))) k) ⌝ }
 {
     let s = Sub {
-        rows: crate::judge::lowest(data.len()),
-        columns: crate::judge::lowest(columns),
+        rows: gridjudge::lowest(data.len()),
+        columns: gridjudge::lowest(columns),
     };
     descend(data, mask, values, s, true, k)
-}
-
-// How many of the first `used` sets have `i`.
-fn times(sets: &[u64; 8], used: usize, i: usize) -> u8
-    requires { ⌜ (used ≤ 8) × (i < 64) ⌝ }
-    ensures { λ r. ⌜ r ≡ timesIn (now (sets .entry)) used i ⌝ }
-{
-    let mut n = 0u8;
-    let mut m = 0;
-    while m < used {
-        n += ((sets[m] >> i) % 2) as u8;
-        m += 1;
-    }
-    n
-}
-
-// `c` with `n` counters put in from `at` on: how many of the sets have each of 0, 1 and so on.
-fn put_counters(c: [u8; 128], at: usize, n: usize, sets: [u64; 8], used: usize) -> [u8; 128]
-    requires { ⌜ (used ≤ 8) × (n ≤ 64) × (at ≤ 64) ⌝ }
-    ensures { λ r. ⌜ take (at + n) r ≡ take at c ++ list n (timesIn sets used) ⌝ }
-{
-    let mut out = c;
-    let mut i = 0;
-    while i < n {
-        out[at + i] = times(&sets, used, i);
-        i += 1;
-    }
-    out
-}
-
-// Every row's counter and then every column's: how many levels took it.
-pub fn counters(
-    rowsets: [u64; 8],
-    columnsets: [u64; 8],
-    used: usize,
-    rows: usize,
-    columns: usize,
-) -> [u8; 128]
-    requires { ⌜ (used ≤ 8) × (rows ≤ 64) × (columns ≤ 64) ⌝ }
-    ensures { λ r. ⌜ take (rows + columns) r ≡ inOrder rows columns (timesIn rowsets used) (timesIn columnsets used) ⌝ }
-{
-    let none = [0u8; 128];
-    let c = put_counters(none, 0, rows, rowsets, used);
-    put_counters(c, rows, columns, columnsets, used)
 }
 
 // How many cells are stuck: the ones of the mask's words.

@@ -1,7 +1,5 @@
 // Grid blocks: a grid of cells, one word a row, and a counter for each row and each column.
-mod judge;
 mod levels;
-mod packing;
 mod pattern;
 
 use gridcalls::ReadAnswer;
@@ -23,40 +21,29 @@ pub fn read(
 ) -> ReadAnswer
     ensures { λ r. ⌜ Read rows columns k (now (cells .entry)) (now (counters .entry)) (now (out .entry)) r (now (out .exit)) ⌝ }
 {
-    if !judge::in_range(rows, columns, k) {
-        return ReadAnswer { number: 1 };
+    let number = gridjudge::read_number(rows, columns, k, cells.len(), counters.len(), out.len());
+    if number != 0 {
+        return ReadAnswer { number };
     }
-    if !judge::sized_for_read(rows, columns, k, cells.len(), counters.len(), out.len()) {
-        return ReadAnswer { number: 2 };
+    ReadAnswer {
+        number: read_sized(columns, k, cells, counters, out),
     }
-    read_sized(columns, k, cells, counters, out)
 }
 
-// The read of numbers in range and buffers that are as long as they should be.
-fn read_sized(
-    columns: usize,
-    k: usize,
-    cells: &[u64],
-    counters: &[u8],
-    out: &mut [u64],
-) -> ReadAnswer
+// The read of numbers in range and buffers that are as long as they should be: its number.
+fn read_sized(columns: usize, k: usize, cells: &[u64], counters: &[u8], out: &mut [u64]) -> usize
     requires { ⌜ ReadSized columns k (now cells) (now counters) (now out) ⌝ }
-    ensures { λ r. ⌜ Read (length (now (cells .entry))) columns k (now (cells .entry)) (now (counters .entry)) (now (out .entry)) r (now (out .exit)) ⌝ }
+    ensures { λ r. ⌜ Read (length (now (cells .entry))) columns k (now (cells .entry)) (now (counters .entry)) (now (out .entry)) (record { number = r }) (now (out .exit)) ⌝ }
 {
-    let count = cells.len() + columns;
-    let width = packing::width(k);
-    if !judge::within(cells, columns) {
-        return ReadAnswer { number: 3 };
+    if !gridjudge::within(cells, columns) {
+        return 3;
     }
-    if !packing::spare_clear(counters, width, count) {
-        return ReadAnswer { number: 3 };
+    let c = counters::unpack(k, cells.len() + columns, counters);
+    let held = c.held;
+    if c.number == 0 {
+        pattern::show(columns, cells, &held, out);
     }
-    let c = packing::unpack(counters, width, count);
-    if !packing::at_most(c, count, k) {
-        return ReadAnswer { number: 4 };
-    }
-    pattern::show(columns, cells, c, out);
-    ReadAnswer { number: 0 }
+    c.number
 }
 
 fn refused(number: usize) -> WriteAnswer
@@ -82,10 +69,7 @@ pub fn write(
 ) -> WriteAnswer
     ensures { λ r. ⌜ Write (block rows columns (now («data» .entry)) (now (mask .entry)) (now (values .entry))) k (now (cells .entry)) (now (counters .entry)) r (now (cells .exit)) (now (counters .exit)) ⌝ }
 {
-    if !judge::in_range(rows, columns, k) {
-        return refused(1);
-    }
-    if !judge::sized_for_write(
+    let number = gridjudge::write_number(
         rows,
         columns,
         k,
@@ -94,8 +78,9 @@ pub fn write(
         values.len(),
         cells.len(),
         counters.len(),
-    ) {
-        return refused(2);
+    );
+    if number != 0 {
+        return refused(number);
     }
     write_sized(columns, k, data, mask, values, cells, counters)
 }
@@ -113,23 +98,28 @@ fn write_sized(
     requires { ⌜ WriteSized columns k (now «data») (now mask) (now values) (now cells) (now counters) ⌝ }
     ensures { λ r. ⌜ Write (block (length (now («data» .entry))) columns (now («data» .entry)) (now (mask .entry)) (now (values .entry))) k (now (cells .entry)) (now (counters .entry)) r (now (cells .exit)) (now (counters .exit)) ⌝ }
 {
-    if !judge::all_within(data, mask, values, columns) {
+    if !gridjudge::all_within(data, mask, values, columns) {
         return refused(3);
     }
     let t = levels::plan(columns, k, data, mask, values);
     if !t.ended {
         return refused(7);
     }
-    let rows = data.len();
-    let used = t.used;
     let taken_rows = t.rows;
     let taken_columns = t.columns;
-    let c = levels::counters(taken_rows, taken_columns, used, rows, columns);
-    pattern::store(data, mask, values, taken_rows, taken_columns, used, cells);
-    packing::pack(c, packing::width(k), rows + columns, counters);
+    pattern::store(data, mask, values, taken_rows, taken_columns, t.used, cells);
+    counters::pack(
+        k,
+        data.len(),
+        columns,
+        t.used,
+        taken_rows,
+        taken_columns,
+        counters,
+    );
     WriteAnswer {
         number: 0,
-        levels: used,
+        levels: t.used,
         faults: levels::stuck_cells(mask),
     }
 }

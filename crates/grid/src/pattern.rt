@@ -19,14 +19,13 @@ fn shown(word: u64, j: usize, r: u8, c: u8) -> bool
     requires { ⌜ j < 64 ⌝ }
     ensures { λ t. ⌜ t ≡ xor (eqb (min r c % 2) 1) (has word j) ⌝ }
 {
-    let bit = (word >> j) % 2 == 1;
-    if flips(r, c) { !bit } else { bit }
+    flips(r, c) ^ ((word >> j) % 2 == 1)
 }
 
 // What a row of cells shows, each cell by itself.
-fn shown_row(w: u64, columns: usize, r: u8, counters: [u8; 128], rows: usize) -> u64
+fn shown_row(w: u64, columns: usize, r: u8, counters: &[u8; 128], rows: usize) -> u64
     requires { ⌜ (columns ≤ 64) × (rows ≤ 64) ⌝ }
-    ensures { λ v. ⌜ v ≡ word columns (λ j. xor (eqb (min r (getD counters (rows + j) 0) % 2) 1) (has w j)) ⌝ }
+    ensures { λ v. ⌜ v ≡ word columns (λ j. xor (eqb (min r (getD (now (counters .entry)) (rows + j) 0) % 2) 1) (has w j)) ⌝ }
 {
     let mut v = 0u64;
     let mut j = 0;
@@ -38,9 +37,9 @@ fn shown_row(w: u64, columns: usize, r: u8, counters: [u8; 128], rows: usize) ->
 }
 
 // Fills `out` with what the cells show.
-pub fn show(columns: usize, cells: &[u64], counters: [u8; 128], out: &mut [u64])
+pub fn show(columns: usize, cells: &[u64], counters: &[u8; 128], out: &mut [u64])
     requires { ⌜ (columns ≤ 64) × (length (now cells) ≤ 64) × (length (now out) ≡ length (now cells)) ⌝ }
-    ensures { λ _. ⌜ now (out .exit) ≡ shownBy columns counters (now (cells .entry)) ⌝ }
+    ensures { λ _. ⌜ now (out .exit) ≡ shownBy columns (now (counters .entry)) (now (cells .entry)) ⌝ }
 {
     let mut i = 0;
     while i < cells.len() {

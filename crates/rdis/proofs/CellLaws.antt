@@ -30,13 +30,6 @@ module _ (m n : ℕ) (r c r′ c′ : ℕ → ℕ) (same-rows : (i : ℕ) → i 
   unfolding reading
   reading-ext cells = words-ext m n _ _ (λ i j p q. ap (λ t. xor t (bit cells i j)) (flips-ext i j p q))
 
-pub stored-ext : (b : Block) (r c r′ c′ : ℕ → ℕ) → ((i : ℕ) → i < b .rows → r i ≡ r′ i) → ((j : ℕ) → j < b .columns → c j ≡ c′ j)
-    → stored b r c ≡ stored b r′ c′
-unfolding stored holds
-stored-ext b r c r′ c′ e f =
-    words-ext (b .rows) (b .columns) (holds b r c) (holds b r′ c′)
-    (λ i j p q. ap (λ t. cond (stuck b i j) (bit (b .values) i j) (xor t (bit (b .data·) i j))) (flips-ext (b .rows) (b .columns) r c r′ c′ e f i j p q))
-
 -- ---- read-back
 
 wrong-differs : (b : Block) (i j : ℕ) → stuck b i j ≡ true → differs b i j ≡ wrong b i j

@@ -101,10 +101,6 @@ spare-bits w n bs h = (
 
 -- ---- counters one by one
 
-pub counter-lt : (w : ℕ) (bs : List ℕ) (t : ℕ) → counter w bs t < 2 ^ w
-unfolding counter
-counter-lt w bs t = mod-lt (number 256 bs / 2 ^ (w * t)) (pow-pos w)
-
 pub counter-unpacked : (w n t : ℕ) (bs : List ℕ) → t < n → getD (unpacked w n bs) t 0 ≡ counter w bs t
 unfolding unpacked
 counter-unpacked w n t bs l = getD-list n (counter w bs) 0 t l

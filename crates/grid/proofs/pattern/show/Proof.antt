@@ -12,12 +12,12 @@ use Rattle.grid.proofs.pattern.show.Statement.{statement}
 use Rattle.grid.proofs.pattern.show.Tie as tie
 
 abbrev Inv-loop : tie.InvT-loop
-Inv-loop columns cells out₀ counters i₀ out i =
+Inv-loop columns cells counters out₀ i₀ out i =
     (i ≤ length cells) × (length out ≡ length cells)
     × (take i out ≡ words i columns (λ i j. xor (eqb (min (getD counters i 0) (getD counters (length cells + j) 0) % 2) 1) (bit cells i j)))
 
 abbrev μ-loop : tie.MeasureT-loop
-μ-loop columns cells out₀ counters i₀ out i = length cells - i
+μ-loop columns cells counters out₀ i₀ out i = length cells - i
 
 loop-holds : tie.Need-loop-holds Inv-loop μ-loop
 unfolding words list
@@ -37,7 +37,7 @@ show-spec =
     -- array-read-shown-row
     (λ c. omega arith)
     -- shown-row-requires
-    (λ c κs. let p = c .before .before .before .before .before .pre in (p .0, p .1))
+    (λ c κs. let p = c .before .before .before .before .before .before .pre in (p .0, p .1))
     -- mul-out
     (λ c. search needs)
     -- slice-write-out
@@ -48,13 +48,13 @@ show-spec =
     (λ c. omega arith)
     -- loop-again
     (λ c.
-    let a = c .before .before .before .before .before .before .args in
-    let l = c .before .before .before .loop in
-    (omega arith, simp length-set (l .inv .1), show-more (a .columns) (l .i) (c .shown-row .result) (a .t3) (a .cells .now) (l .out) (omega arith) (l .inv .2) (c .shown-row .ensures)))
+    let a = c .before .before .before .before .before .before .before .args in
+    let l = c .before .before .before .before .loop in
+    (omega arith, simp length-set (l .inv .1), show-more (a .columns) (l .i) (c .shown-row .result) (a .counters .now) (a .cells .now) (l .out) (omega arith) (l .inv .2) (c .shown-row .ensures)))
     -- same-length
     (λ c. omega arith)
     -- returns
     (λ c.
     let a = c .before .before .before .before .args in
     let l = c .before .loop in
-    show-done (a .columns) (l .i) (a .t3) (a .cells .now) (l .out) (l .inv .1) (omega arith) (l .inv .2)))
+    show-done (a .columns) (l .i) (a .counters .now) (a .cells .now) (l .out) (l .inv .1) (omega arith) (l .inv .2)))

@@ -11,10 +11,10 @@ use Rattle.grid.proofs.pattern.shown_row.Statement.{statement}
 use Rattle.grid.proofs.pattern.shown_row.Tie as tie
 
 abbrev Inv-loop : tie.InvT-loop
-Inv-loop w columns r rows counters v₀ j₀ v j = (j ≤ columns) × (v ≡ word j (λ j. xor (eqb (min r (getD counters (rows + j) 0) % 2) 1) (has w j)))
+Inv-loop w columns r counters rows v₀ j₀ v j = (j ≤ columns) × (v ≡ word j (λ j. xor (eqb (min r (getD counters (rows + j) 0) % 2) 1) (has w j)))
 
 abbrev μ-loop : tie.MeasureT-loop
-μ-loop w columns r rows counters v₀ j₀ v j = columns - j
+μ-loop w columns r counters rows v₀ j₀ v j = columns - j
 
 loop-holds : tie.Need-loop-holds Inv-loop μ-loop
 unfolding word
@@ -41,13 +41,13 @@ shown-row-spec =
     (λ c. omega arith)
     -- loop-again
     (λ c.
-    let a = c .before .before .before .before .args in
-    let l = c .before .before .before .loop in
-    let f : ℕ → Bool = λ j. xor (eqb (min (a .r) (getD (a .t4) (a .rows + j) 0) % 2) 1) (has (a .w) j) in
+    let a = c .before .before .before .before .before .args in
+    let l = c .before .before .before .before .loop in
+    let f : ℕ → Bool = λ j. xor (eqb (min (a .r) (getD (a .counters .now) (a .rows + j) 0) % 2) 1) (has (a .w) j) in
     (omega arith, ap₂ bitOr (c .mark-if .ensures) (l .inv .1) ∙ word-more (l .j) f (c .before .shown .result) (c .before .shown .ensures)))
     -- returns
     (λ c.
     let a = c .before .before .args in
     let l = c .before .loop in
     let e : l .j ≡ a .columns = omega arith in
-    l .inv .1 ∙ ap (λ n. word n (λ j. xor (eqb (min (a .r) (getD (a .t4) (a .rows + j) 0) % 2) 1) (has (a .w) j))) e))
+    l .inv .1 ∙ ap (λ n. word n (λ j. xor (eqb (min (a .r) (getD (a .counters .now) (a .rows + j) 0) % 2) 1) (has (a .w) j))) e))

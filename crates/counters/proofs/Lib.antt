@@ -1,0 +1,4 @@
+pub mod PackLaws
+pub mod TallyLaws
+pub mod PromiseLaws
+pub mod Demands

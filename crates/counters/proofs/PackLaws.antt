@@ -1,0 +1,144 @@
+-- Laws of the loop that rewrites digits of one width as digits of another, once over both widths. Assumes nothing.
+use mathlib.Core.Path.{_≡_, refl, sym, ap, _∙_}
+use mathlib.Core.Bool.{Bool, true, false, not}
+use mathlib.Core.List.{List, [], _∷_, _++_}
+use Prim.Native.Nat.{ℕ, zero, suc, _+_, _*_, _/_, _%_, _^_, _-_, _<_, _≤_}
+use native.Mathlib.Nat.{pow-zero, pow-suc, mod-lt, div-lt-iff-lt-mul, lt-of-lt-of-le, mul-le-mul, mul-assoc, mul-add-mod-self-right, zero-mul, add-mul, one-mul, div-eq-of-lt, sub-zero, zero-sub, suc-sub-suc, mul-one, mul-le-mul-right, div-add-mod}
+use native.Mathlib.Omega.{arith}
+use native.Mathlib.Numerals.{add-one}
+use native.Mathlib.Decide.{decLt}
+use borrow.Author.Tests.{eq-eqb, ne-eqb, lt-ltb, le-ltb}
+use lib.Dec.{lit<, eqb, leb, ltb}
+use lib.ListN.{length, getD, take, drop, set, replicate, drop-of-length-le}
+use lib.Pow.{pow-pos, pow-mono, pow-add, shr-shr, field, shl-exact, shl-lt}
+use lib.Seq.{take-suc-set, getD-drop}
+use Rattle.bits.specs.Bits.{some, list, number, digits, Below}
+use Rattle.bits.proofs.BoundLaws.{some-in, none-more, list-getD}
+use Rattle.bits.proofs.DigitLaws.{number-drop, number-step, pow-mul, digits-more, length-digits, getD-digits}
+use Rattle.rdis.specs.Packing.{width, bytesFor, counter, unpacked, spareClear}
+
+-- ---- small numbers
+
+pub small : (w t : ℕ) → w ≤ 8 → t ≤ 128 → w * t ≤ 1024
+small w t h k = mul-le-mul h k
+
+pub at-least : (a j : ℕ) → 0 < a → j ≤ a * j
+at-least a j h = rw one-mul at (mul-le-mul-right j h)
+
+pub mod-small : (x w : ℕ) → w ≤ 8 → x % 2 ^ w < 256
+mod-small x w h = lt-of-lt-of-le (mod-lt x (pow-pos w)) (pow-mono {j = 8} h)
+
+pub shl-byte : (x k : ℕ) → x < 256 → k < 16 → (x * 2 ^ k % 2 ^ 64 ≡ x * 2 ^ k) × (x * 2 ^ k % 2 ^ 64 < 16777216)
+shl-byte x k hx hk =
+    let e : x * 2 ^ k % 2 ^ 64 ≡ x * 2 ^ k = shl-exact 8 k 64 hx (omega arith) in
+    (e, rw e (lt-of-lt-of-le (shl-lt 8 k hx) (pow-mono {i = 8 + k} {j = 24} (omega arith))))
+
+-- ---- widths
+
+width-by : (k : ℕ) (t : Bool) → leb k 1 ≡ t → (1 ≤ width k) × (width k ≤ 8)
+unfolding width
+width-by k true e = rw e (omega arith, omega arith)
+width-by k false e = rw e (omega arith, omega arith)
+
+pub width-some : (k : ℕ) → 1 ≤ width k
+width-some k = width-by k (leb k 1) refl .0
+
+pub width-few : (k : ℕ) → width k ≤ 8
+width-few k = width-by k (leb k 1) refl .1
+
+-- ---- a window of digits
+
+-- w bits from bit r on do not see what stands at bit k or above
+field-low : (x v k w r : ℕ) → w + r ≤ k → (x * 2 ^ k + v) / 2 ^ r % 2 ^ w ≡ v / 2 ^ r % 2 ^ w
+field-low x v k w r h =
+    rw (← field (x * 2 ^ k + v) w r, ← field v w r)
+    (ap (λ m. m / 2 ^ r)
+    (ap (λ m. (m + v) % 2 ^ (w + r)) (ap (λ m. x * m) high ∙ sym (mul-assoc x (2 ^ (k - (w + r))) (2 ^ (w + r))))
+    ∙ mul-add-mod-self-right (x * 2 ^ (k - (w + r))) (2 ^ (w + r)) v))
+  where
+    high : 2 ^ k ≡ 2 ^ (k - (w + r)) * 2 ^ (w + r)
+    high = ap (λ m. 2 ^ m) (omega arith) ∙ pow-add 2 (k - (w + r)) (w + r)
+
+-- from bit p on: from digit p / a on, and then from its bit p % a on
+from-digit : (a p : ℕ) (ds : List ℕ) → Below (2 ^ a) ds → number (2 ^ a) ds / 2 ^ p ≡ number (2 ^ a) (drop (p / a) ds) / 2 ^ (p % a)
+from-digit a p ds h =
+    ap (λ m. number (2 ^ a) ds / 2 ^ m) (sym (div-add-mod p a))
+    ∙ sym (shr-shr (number (2 ^ a) ds) (a * (p / a)) (p % a))
+    ∙ ap (λ m. m / 2 ^ (p % a)) (ap (λ m. number (2 ^ a) ds / m) (sym (pow-mul a (p / a))) ∙ number-drop (2 ^ a) (p / a) ds h)
+
+number-take : (b j : ℕ) (ds : List ℕ) → number b (take (suc j) ds) ≡ number b (take j ds) + getD ds j 0 * b ^ j
+unfolding number
+number-take b zero [] = omega (arith, zero-mul (b ^ 0))
+number-take b (suc j) [] = omega (arith, zero-mul (b ^ suc j))
+number-take b zero (d ∷ ds) = omega (arith, zero-mul b, rw (← pow-zero b) at (mul-one d))
+number-take b (suc j) (d ∷ ds) = rw (number-take b j ds, add-mul, pow-suc, mul-assoc) (omega arith)
+
+number-split : (b j : ℕ) (ds : List ℕ) → number b ds ≡ number b (drop j ds) * b ^ j + number b (take j ds)
+unfolding number
+number-split b zero ds = omega (arith, rw (← pow-zero b) at (mul-one (number b ds)))
+number-split b (suc j) [] = omega (arith, zero-mul (b ^ suc j))
+number-split b (suc j) (d ∷ ds) = ap (λ m. m * b + d) (number-split b j ds) ∙ rw (add-mul, pow-suc, mul-assoc) (omega arith)
+
+-- j digits from digit p / a on have the k bits from bit p on
+pub window : (a p k j : ℕ) (ds : List ℕ) → Below (2 ^ a) ds → p % a + k ≤ a * j
+    → number (2 ^ a) (take j (drop (p / a) ds)) / 2 ^ (p % a) % 2 ^ k ≡ number (2 ^ a) ds / 2 ^ p % 2 ^ k
+window a p k j ds h l =
+    sym
+    (ap (λ m. m % 2 ^ k) (from-digit a p ds h ∙ ap (λ m. m / 2 ^ (p % a)) (number-split (2 ^ a) j (drop (p / a) ds) ∙ rw pow-mul))
+    ∙ field-low (number (2 ^ a) (drop j (drop (p / a) ds))) (number (2 ^ a) (take j (drop (p / a) ds))) (a * j) k (p % a) (omega arith))
+
+pub window-more : (a q j v r : ℕ) (ds : List ℕ) → v ≡ number (2 ^ a) (take j (drop q ds)) → r ≡ getD ds (q + j) 0 * 2 ^ (a * j)
+    → v + r ≡ number (2 ^ a) (take (j + 1) (drop q ds))
+window-more a q j v r ds hv hr = rw (add-one, number-take, hv, hr, getD-drop, pow-mul)
+
+-- ---- the digits written
+
+pub digits-step : (k t x v : ℕ) (dst : List ℕ) → t < length dst → take t dst ≡ digits (2 ^ k) t x → v ≡ x / 2 ^ (k * t) % 2 ^ k
+    → take (t + 1) (set dst t v) ≡ digits (2 ^ k) (t + 1) x
+digits-step k t x v dst l h e = rw add-one (take-suc-set dst t v l ∙ rw (h, e, ← pow-mul k t) (sym (digits-more (2 ^ k) t x)))
+
+pub drop-zeros : (n m : ℕ) → drop {A = ℕ} n (replicate m 0) ≡ replicate (m - n) 0
+drop-zeros zero m = rw sub-zero
+drop-zeros (suc n) zero = rw zero-sub
+drop-zeros (suc n) (suc m) = rw suc-sub-suc (drop-zeros n m)
+
+-- counters are the digits of the number that their bytes make
+pub digits-unpacked : (w n : ℕ) (bs : List ℕ) → digits (2 ^ w) n (number 256 bs) ≡ unpacked w n bs
+unfolding unpacked counter
+digits-unpacked w n bs =
+    list-getD n (counter w bs) 0 (digits (2 ^ w) n (number 256 bs)) (length-digits (2 ^ w) n (number 256 bs)) (λ i h. getD-digits (2 ^ w) n (number 256 bs) i h ∙ rw pow-mul)
+
+-- ---- the spare bits
+
+quotient-test : (x : ℕ) {m : ℕ} → 0 < m → eqb (x / m) 0 ≡ ltb x m
+quotient-test x {m} p =
+    elim (decLt x m) [
+      | yes h ↦ eq-eqb (x / m) 0 (div-eq-of-lt h) ∙ sym (lt-ltb x m h)
+      | no h ↦ ne-eqb (x / m) 0 (λ e. h (rw one-mul at (div-lt-iff-lt-mul {k = m} {x = x} {y = 1} p .0 (omega arith)))) ∙ sym (le-ltb x m (omega arith))
+    ]
+
+number-none : (b : ℕ) → number b [] ≡ 0
+unfolding number
+number-none b = refl
+
+pub spare-read : (w n : ℕ) (bs : List ℕ) → length bs ≡ bytesFor w n → Below 256 bs → eqb (getD bs (w * n / 8) 0 / 2 ^ (w * n % 8)) 0 ≡ spareClear w n bs
+unfolding spareClear bytesFor
+spare-read w n bs l h =
+    ap (λ x. eqb x 0) (sym (from-digit 8 (w * n) bs h ∙ ap (λ x. x / 2 ^ (w * n % 8)) last)) ∙ quotient-test (number 256 bs) (pow-pos (w * n))
+  where
+    none : number 256 (drop (suc (w * n / 8)) bs) ≡ 0
+    none = rw (drop-of-length-le bs {i = suc (w * n / 8)} (omega arith)) (number-none 256)
+
+    last : number 256 (drop (w * n / 8) bs) ≡ getD bs (w * n / 8) 0
+    last = omega (arith, none, number-step 256 (w * n / 8) bs)
+
+-- ---- counters above K
+
+pub above-found : (n k t : ℕ) (cs : List ℕ) → t < n → k < getD cs t 0 → false ≡ not (some n (λ t. ltb k (getD cs t 0)))
+above-found n k t cs l h = sym (ap not (some-in n (λ t. ltb k (getD cs t 0)) t l (lt-ltb k (getD cs t 0) h)))
+
+pub above-more : (k t : ℕ) (cs : List ℕ) → some t (λ t. ltb k (getD cs t 0)) ≡ false → (k < getD cs t 0 → ⊥) → some (t + 1) (λ t. ltb k (getD cs t 0)) ≡ false
+above-more k t cs h l = none-more t (λ t. ltb k (getD cs t 0)) h (le-ltb k (getD cs t 0) (omega arith))
+
+pub above-none : (n k t : ℕ) (cs : List ℕ) → t ≡ n → some t (λ t. ltb k (getD cs t 0)) ≡ false → true ≡ not (some n (λ t. ltb k (getD cs t 0)))
+above-none n k t cs e h = sym (ap not (ap (λ m. some m (λ t. ltb k (getD cs t 0))) (sym e) ∙ h))

@@ -1,0 +1,80 @@
+// A block's counters in bytes: how many bytes they take, which counters bytes hold, and the bytes of the counters of levels.
+mod packing;
+mod tally;
+
+ghost use mathlib.Core.Path.{_≡_};
+ghost use mathlib.Core.Bool.{cond};
+ghost use Rattle.counters.specs.Promises.{fit, packable as isPackable, Unpack, Pack};
+
+// What bytes hold: 0 or the number of the refusal, and the counters, with 0 after them.
+pub struct Counters {
+    pub number: usize,
+    pub held: [u8; 128],
+}
+
+// Whether so many bytes are what `count` counters take. A block has at most 128 counters.
+pub fn fits(k: usize, count: usize, bytes: usize) -> bool
+    ensures { λ r. ⌜ r ≡ fit k count bytes ⌝ }
+{
+    if count > 128 {
+        return false;
+    }
+    bytes == packing::bytes_for(packing::width(k), count)
+}
+
+// The refusal of bytes of the right length, by whether their spare bits are 0 and whether no counter is above K.
+fn refusal(clear: bool, low: bool) -> usize
+    ensures { λ r. ⌜ r ≡ cond clear (cond low 0 4) 3 ⌝ }
+{
+    if !clear {
+        return 3;
+    }
+    if low { 0 } else { 4 }
+}
+
+// The `count` counters that bytes hold, judged.
+pub fn unpack(k: usize, count: usize, bytes: &[u8]) -> Counters
+    ensures { λ r. ⌜ Unpack k count (now (bytes .entry)) r ⌝ }
+{
+    if !fits(k, count, bytes.len()) {
+        return Counters {
+            number: 2,
+            held: [0u8; 128],
+        };
+    }
+    let width = packing::width(k);
+    let held = packing::unpack(bytes, width, count);
+    let number = refusal(
+        packing::spare_clear(bytes, width, count),
+        packing::at_most(&held, count, k),
+    );
+    Counters { number, held }
+}
+
+// Whether there is room for the counters, and a counter's bits hold the number of the levels.
+fn packable(k: usize, rows: usize, columns: usize, used: usize, bytes: usize) -> bool
+    ensures { λ r. ⌜ r ≡ isPackable k rows columns used bytes ⌝ }
+{
+    if !((rows <= 64) & ((columns <= 64) & (used <= 8))) {
+        return false;
+    }
+    (used < 1 << packing::width(k)) & fits(k, rows + columns, bytes)
+}
+
+// Writes the counters of the levels that took these sets of rows and of columns: how many took each row, then each column.
+pub fn pack(
+    k: usize,
+    rows: usize,
+    columns: usize,
+    used: usize,
+    rowsets: [u64; 8],
+    columnsets: [u64; 8],
+    out: &mut [u8],
+)
+    ensures { λ _. ⌜ Pack k rows columns used rowsets columnsets (now (out .entry)) (now (out .exit)) ⌝ }
+{
+    if packable(k, rows, columns, used, out.len()) {
+        let counters = tally::counters(rowsets, columnsets, used, rows, columns);
+        packing::pack(counters, packing::width(k), rows + columns, out);
+    }
+}
