@@ -1,7 +1,7 @@
 -- Laws of the bits of numbers and of words made of bits, and of the machine's operations on words. Assumes nothing.
 use mathlib.Core.Path.{_≡_, refl, sym, ap, ap₂, subst, _∙_}
 use mathlib.Core.Bool.{Bool, true, false, not, xor, _&&_, _||_}
-use mathlib.Core.Logic.{_↔_, _≢_, _⊎_, inl, inr, ⊎-elim}
+use mathlib.Core.Logic.{_↔_, _≢_, _⊎_, ⊎-elim}
 use Prim.Native.Nat.{ℕ, zero, suc, _+_, _-_, _*_, _/_, _%_, _^_, _≤_, _<_, min, max}
 use native.Mathlib.Nat.{mod-lt, mod-one, mod-eq-of-lt, div-one, div-eq-of-lt, lt-of-lt-of-le, pow-suc}
 use native.Mathlib.Numerals.{one-add, add-one}

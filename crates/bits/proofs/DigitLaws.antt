@@ -1,7 +1,7 @@
 -- Laws of a number and its digits, in any base, and of digits to a power of two and their bits. Assumes nothing.
 use mathlib.Core.Path.{_≡_, refl, sym, ap, ap₂, _∙_}
 use mathlib.Core.List.{List, [], _∷_, _++_}
-use Prim.Native.Nat.{ℕ, zero, suc, _+_, _*_, _/_, _%_, _^_, _<_, _≤_}
+use Prim.Native.Nat.{ℕ, zero, suc, _+_, _*_, _/_, _%_, _^_, _<_}
 use native.Mathlib.Nat.{pow-zero, pow-suc, pow-succ', div-one, zero-div, mod-lt, mul-zero, mul-suc, div-add-mod', div-lt-iff-lt-mul, div-div-eq-div-mul, zero-mul, div-add-mod}
 use native.Mathlib.Omega.{arith}
 use lib.ListN.{length, getD, drop}

@@ -1,8 +1,8 @@
 -- Each definition computed on literals, so that a reader sees which way round it counts. Assumes nothing.
 use mathlib.Core.Path.{_≡_, refl}
 use mathlib.Core.Bool.{true, false}
-use mathlib.Core.List.{List, [], _∷_}
-use Prim.Native.Nat.{ℕ, _*_, _%_, _^_}
+use mathlib.Core.List.{[], _∷_}
+use Prim.Native.Nat.{_*_, _^_}
 use lib.Dec.{eqb, ltb}
 use Rattle.bits.specs.Bits.{some, sum, list, has, word, words, at, bytes, number, digits}
 

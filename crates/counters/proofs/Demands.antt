@@ -11,7 +11,7 @@ use Rattle.rdis.specs.Packing.{width, bytesFor, inOrder, counter}
 use Rattle.rdis.specs.Theorems.{Packs}
 use Rattle.rdis.proofs.PackingLaws.{packed-only, counter-packed, length-in-order, in-order-below}
 use Rattle.counters.specs.Promises.{fit, above, unpackNumber, times, packable, ReadsBack, OneUnpack, OnePack}
-use Rattle.counters.proofs.PromiseLaws.{Room, has-room, fit-few, times-few, counters-fit}
+use Rattle.counters.proofs.PromiseLaws.{has-room, fit-few, times-few, counters-fit}
 
 pub reads-back : ReadsBack
 unfolding unpackNumber above

@@ -1,14 +1,14 @@
 -- Laws of the loop that rewrites digits of one width as digits of another, once over both widths. Assumes nothing.
 use mathlib.Core.Path.{_≡_, refl, sym, ap, _∙_}
 use mathlib.Core.Bool.{Bool, true, false, not}
-use mathlib.Core.List.{List, [], _∷_, _++_}
+use mathlib.Core.List.{List, [], _∷_}
 use Prim.Native.Nat.{ℕ, zero, suc, _+_, _*_, _/_, _%_, _^_, _-_, _<_, _≤_}
 use native.Mathlib.Nat.{pow-zero, pow-suc, mod-lt, div-lt-iff-lt-mul, lt-of-lt-of-le, mul-le-mul, mul-assoc, mul-add-mod-self-right, zero-mul, add-mul, one-mul, div-eq-of-lt, sub-zero, zero-sub, suc-sub-suc, mul-one, mul-le-mul-right, div-add-mod}
 use native.Mathlib.Omega.{arith}
 use native.Mathlib.Numerals.{add-one}
 use native.Mathlib.Decide.{decLt}
 use borrow.Author.Tests.{eq-eqb, ne-eqb, lt-ltb, le-ltb}
-use lib.Dec.{lit<, eqb, leb, ltb}
+use lib.Dec.{eqb, leb, ltb}
 use lib.ListN.{length, getD, take, drop, set, replicate, drop-of-length-le}
 use lib.Pow.{pow-pos, pow-mono, pow-add, shr-shr, field, shl-exact, shl-lt}
 use lib.Seq.{take-suc-set, getD-drop}

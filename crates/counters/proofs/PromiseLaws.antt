@@ -4,7 +4,7 @@ use mathlib.Core.Path.{_≡_, refl, sym, ap, _∙_}
 use mathlib.Core.Bool.{Bool, true, false, not, cond, _&&_}
 use mathlib.Core.List.{List, _++_}
 use native.Mathlib.Omega.{arith}
-use borrow.Author.Tests.{leb-true, ltb-true, eqb-true, eq-eqb, le-leb, lt-leb, lt-ltb, le-ltb}
+use borrow.Author.Tests.{leb-true, ltb-true, eqb-true, eq-eqb, le-leb, lt-leb, lt-ltb}
 use lib.Dec.{eqb, leb, ltb}
 use lib.ListN.{length, getD, replicate, List·getD-append}
 use lib.Pow.{pow-pos}
@@ -13,7 +13,6 @@ use Rattle.bits.proofs.TestLaws.{clash, and-left, and-right}
 use Rattle.bits.proofs.BoundLaws.{some-ext, length-list, sum-num-le}
 use Rattle.rdis.specs.Packing.{width, bytesFor, inOrder, counter, unpacked, spareClear}
 use Rattle.rdis.proofs.PackingLaws.{counter-unpacked, in-order-below}
-use Rattle.counters.specs.declared.Counters.{Counters}
 use Rattle.counters.specs.Promises.{fit, above, unpackNumber, Unpack, times, few, packable}
 
 -- ---- lengths

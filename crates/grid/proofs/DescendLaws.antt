@@ -2,7 +2,6 @@
 use mathlib.Core.Path.{_≡_, refl, sym, ap, ap₂, subst, _∙_}
 use mathlib.Core.Bool.{Bool, true, false, not, _&&_, _||_}
 use mathlib.Core.List.{List}
-use mathlib.Core.Logic.{_≢_}
 use Prim.Native.Nat.{ℕ, zero, suc, _+_, _-_, _^_, _≤_, _<_, min}
 use native.Mathlib.Omega.{arith}
 use native.Mathlib.Numerals.{add-one}
@@ -14,14 +13,14 @@ use Rattle.bits.specs.Bits.{num, sum, has, word}
 use Rattle.bits.proofs.TestLaws.{clash, false-when}
 use Rattle.bits.proofs.BoundLaws.{sum-ext}
 use Rattle.bits.proofs.BitLaws.{word-lt}
-use Rattle.rdis.specs.Levels.{Subgrid, whole, taken, left, Outcome, masked, unmaskable, more, levels, plan}
+use Rattle.rdis.specs.Levels.{whole, taken, left, Outcome, masked, unmaskable, more, levels, plan}
 use Rattle.rdis.specs.Chains.{byRow, byColumn}
 use Rattle.rdis.proofs.LevelLaws.{levels-none, levels-stop, levels-next, left-rows}
 use Rattle.rdis.proofs.CounterLaws.{Counts as Tallied, levels-counted}
 use Rattle.grid.specs.declared.levels.Sub.{Sub}
 use Rattle.grid.specs.declared.levels.Taken.{Taken}
 use Rattle.counters.specs.Promises.{times}
-use Rattle.grid.specs.Steps.{blockOf, subgrid, crossings, Counts, Follows, Planned}
+use Rattle.grid.specs.Steps.{blockOf, subgrid, crossings, Follows, Planned}
 
 -- ---- one set more
 

@@ -1,8 +1,8 @@
 -- Laws of what is stored and shown: parities of crossings, words of a row, and buffers of rows. Assumes nothing.
-use mathlib.Core.Path.{_≡_, refl, sym, ap, ap₂, _∙_}
+use mathlib.Core.Path.{_≡_, refl, ap, ap₂, _∙_}
 use mathlib.Core.Bool.{Bool, true, false, not, xor, cond, _&&_, _||_}
 use mathlib.Core.List.{List}
-use Prim.Native.Nat.{ℕ, zero, suc, _+_, _*_, _/_, _%_, _^_, _≤_, _<_, min}
+use Prim.Native.Nat.{ℕ, zero, suc, _+_, _/_, _%_, _^_, _<_, min}
 use native.Mathlib.Omega.{arith}
 use native.Mathlib.Numerals.{add-one}
 use lib.Bits.{bitAnd, bitOr, bitXor, or-lt, xor-lt, and-lt}
@@ -11,7 +11,7 @@ use lib.ListN.{length, getD, take, set}
 use lib.Pow.{pow-pos}
 use Rattle.bits.specs.Bits.{num, sum, has, word, words}
 use Rattle.bits.proofs.TestLaws.{xor-true, xor-false}
-use Rattle.bits.proofs.BitLaws.{has-and, has-or, has-xor, has-zero, has-word, is-word, word-lt, word-ext, word-more}
+use Rattle.bits.proofs.BitLaws.{has-and, has-or, has-xor, has-zero, has-word, is-word, word-lt, word-ext}
 use Rattle.bits.proofs.ByteLaws.{words-more, words-done}
 use Rattle.rdis.specs.Block.{bit}
 use Rattle.grid.specs.Steps.{crossings, heldBy, shownBy}

@@ -1,21 +1,20 @@
 -- Laws of a write by the sets that the levels took: its cells and its counters are those of the plan. Assumes nothing.
-use mathlib.Core.Path.{_≡_, refl, sym, ap, ap₂, _∙_}
-use mathlib.Core.Bool.{Bool, true, false, not, xor, cond, _||_}
+use mathlib.Core.Path.{_≡_, refl, ap, ap₂, _∙_}
+use mathlib.Core.Bool.{Bool, true, false, xor, cond, _||_}
 use mathlib.Core.List.{List, _++_}
-use Prim.Native.Nat.{ℕ, _+_, _%_, _^_, _≤_, _<_, min}
+use Prim.Native.Nat.{ℕ, _+_, _%_, _^_, _≤_}
 use native.Mathlib.Omega.{arith}
 use lib.Dec.{eqb}
-use lib.ListN.{length, getD, take}
+use lib.ListN.{length, getD}
 use Rattle.bits.specs.Bits.{list, words, Below}
 use Rattle.bits.proofs.TestLaws.{clash, xor-false}
 use Rattle.bits.proofs.BoundLaws.{list-ext}
 use Rattle.bits.proofs.BitLaws.{has-high}
 use Rattle.bits.proofs.ByteLaws.{words-narrow}
-use Rattle.rdis.specs.Block.{Block, bit, stuck, faults}
+use Rattle.rdis.specs.Block.{bit, stuck, faults}
 use Rattle.rdis.specs.Levels.{Outcome, masked, unmaskable, plan}
 use Rattle.rdis.specs.Cells.{flips, holds, stored}
 use Rattle.rdis.specs.Packing.{width, inOrder, packed}
-use Rattle.rdis.specs.Theorems.{Masked}
 use Rattle.rdis.proofs.CounterLaws.{counters-outside}
 use Rattle.rdis.proofs.PackingLaws.{width-holds}
 use Rattle.gridcalls.specs.declared.WriteAnswer.{WriteAnswer}

@@ -1,7 +1,7 @@
 // Which cells are held the other way round, and what is stored and shown by that.
 ghost use mathlib.Core.Path.{_≡_};
 ghost use mathlib.Core.Bool.{xor, cond};
-ghost use Prim.Native.Nat.{ℕ, _+_, _%_, _^_, _<_, _≤_, min};
+ghost use Prim.Native.Nat.{_+_, _%_, _^_, _<_, _≤_, min};
 ghost use lib.ListN.{length, getD};
 ghost use lib.Dec.{eqb};
 ghost use Rattle.bits.specs.Bits.{has, word, words};

@@ -1,9 +1,7 @@
 // What is judged before a block is worked on: numbers, lengths, and bits past the last column. Each function answers for every argument.
 ghost use mathlib.Core.Path.{_≡_};
 ghost use mathlib.Core.Bool.{true, not, _&&_, _||_};
-ghost use Prim.Native.Nat.{ℕ, min};
-ghost use lib.ListN.{length};
-ghost use lib.Dec.{eqb, leb};
+ghost use Prim.Native.Nat.{min};
 ghost use Rattle.bits.specs.Bits.{word};
 ghost use Rattle.gridcalls.specs.Calls.{between, inRange, past};
 ghost use Rattle.gridjudge.specs.Numbers.{judged, readJudged, writeJudged};

@@ -1,10 +1,9 @@
 use borrow.Author.Needs.{needs}
 use native.Mathlib.Omega.{arith}
-use mathlib.Core.Path.{sym, ap, refl, _∙_}
-use Prim.Native.Nat.{_+_}
+use mathlib.Core.Path.{sym, refl, _∙_}
 use lib.ListN.{length}
 use Rattle.bits.proofs.TestLaws.{clash}
-use Rattle.rdis.specs.Packing.{width, packed}
+use Rattle.rdis.specs.Packing.{width}
 use Rattle.counters.proofs.PackLaws.{width-some, width-few}
 use Rattle.counters.proofs.PromiseLaws.{Room, has-room, counters-fit}
 use Rattle.counters.proofs.pack.Statement.{statement}

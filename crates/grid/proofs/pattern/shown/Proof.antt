@@ -1,5 +1,5 @@
 use borrow.Author.Needs.{needs}
-use mathlib.Core.Path.{ap, _∙_}
+use mathlib.Core.Path.{ap}
 use mathlib.Core.Bool.{xor}
 use Rattle.bits.specs.Bits.{has}
 use Rattle.grid.proofs.pattern.shown.Statement.{statement}
