@@ -1,98 +1,68 @@
--- Laws of the places of a call's buffers and of its line. Assumes nothing.
-use mathlib.Core.Path.{_≡_, refl, sym, ap, ap₂, subst, _∙_}
-use mathlib.Core.Bool.{Bool, true, false, cond}
-use mathlib.Core.List.{List, [], _∷_, _++_}
-use Prim.Native.Nat.{ℕ, _+_, _*_, _≤_, _<_}
+-- Laws of the places of a call's buffers, of its line, and of the call at the front of the bytes. Assumes nothing.
+use mathlib.Core.Path.{_≡_, refl, sym, ap, subst, _∙_}
+use mathlib.Core.List.{List, [], _∷_}
+use Prim.Native.Nat.{ℕ, _+_, _≤_, _<_}
 use native.Mathlib.Omega.{arith}
-use native.Mathlib.Decide.{ℕ-discrete}
 use borrow.Author.Tests.{ne-eqb}
-use lib.Dec.{leb}
-use lib.ListN.{length, getD, take, drop, length-take, length-drop, length-append}
-use lib.Seq.{length-take-le, take-at, take-length}
-use Rattle.io.specs.Counts.{Counts}
+use lib.ListN.{length, getD}
 use Rattle.calls.specs.declared.input.WritePlaces.{WritePlaces}
 use Rattle.calls.specs.declared.input.ReadPlaces.{ReadPlaces}
-use Rattle.calls.specs.Format.{many, isBuffer, afterNumbers, afterBuffer, afterBuffers, afterCall, callEnd, Stands, between, wordsOf}
+use Rattle.calls.specs.Format.{afterNumbers, afterBuffer, afterBuffers, afterCall, callEnd}
 use Rattle.calls.specs.Text.{decimal, bufferText, writeLine, readLine, Put}
-use Rattle.calls.specs.Calls.{WriteAt, ReadAt, WriteLine, ReadLine, Called, Write, Read, Printed}
-use Rattle.calls.proofs.FormatLaws.{is-buffer}
-use Rattle.calls.proofs.TextLaws.{length-decimals, length-text, length-write, length-read, put-nothing}
+use Rattle.calls.specs.Calls.{writePlaces, readPlaces, WriteStands, ReadStands, WriteLine, ReadLine, LineOf, PutLine, Called, Printed}
+use Rattle.calls.proofs.FormatLaws.{stands, numbers-stand}
+use Rattle.calls.proofs.TextLaws.{length-decimals, length-text, length-write, length-read}
 
 -- ---- places
 
--- what does not end at 0 stands whole, and does not start at 0
-pub stands : {q : ℕ} (bs : List ℕ) (p w : ℕ) → q ≡ afterBuffer bs p w → (q ≡ 0 → ⊥) → Stands bs p w q × (p ≡ 0 → ⊥)
-unfolding afterBuffer
-stands {q} bs p w e h = go (isBuffer bs p w) refl e
-  where
-    go : (t : Bool) → isBuffer bs p w ≡ t → q ≡ cond t (p + 2 + w * many bs p) 0 → Stands bs p w q × (p ≡ 0 → ⊥)
-    go true k e = let f = is-buffer bs p w k in (record { size = sym e; few = f .few; within = subst (λ x. x ≤ length bs) (sym e) (f .whole) }, f .place)
-    go false k e = absurd (h e)
-
-pub numbers : {q : ℕ} (bs : List ℕ) (n : ℕ) → q ≡ afterNumbers bs n → (q ≡ 0 → ⊥) → 1 + 8 * n ≡ q
-unfolding afterNumbers
-numbers {q} bs n e h = go (leb (1 + 8 * n) (length bs)) e
-  where
-    go : (t : Bool) → q ≡ cond t (1 + 8 * n) 0 → 1 + 8 * n ≡ q
-    go true e = sym e
-    go false e = absurd (h e)
-
 module _ (bs : List ℕ) (n w : ℕ) where
   pub write-at : (r : WritePlaces) → r .«data» ≡ afterNumbers bs n → r .mask ≡ afterBuffer bs (r .«data») w → r .values ≡ afterBuffer bs (r .mask) w
-      → r .cells ≡ afterBuffer bs (r .values) w → r .others ≡ afterBuffer bs (r .cells) w → r .end ≡ afterBuffer bs (r .others) 1 → WriteAt bs n w r
-  unfolding afterCall afterBuffers
+      → r .cells ≡ afterBuffer bs (r .values) w → r .others ≡ afterBuffer bs (r .cells) w → r .end ≡ afterBuffer bs (r .others) 1 → r ≡ writePlaces bs n w
+  unfolding writePlaces afterCall afterBuffers
   write-at r a b c d e f =
-      let cells : r .cells ≡ afterCall bs n (w ∷ w ∷ w ∷ []) = d ∙ ap (λ p. afterBuffer bs p w) (c ∙ ap (λ p. afterBuffer bs p w) (b ∙ ap (λ p. afterBuffer bs p w) a)) in
-      let others : r .others ≡ afterCall bs n (w ∷ w ∷ w ∷ w ∷ []) = e ∙ ap (λ p. afterBuffer bs p w) cells in
-      record {
-        cells = cells;
-        others = others;
-        end = f ∙ ap (λ p. afterBuffer bs p 1) others;
-        whole = λ h.
-            let (o, h₅) = stands bs (r .others) 1 f h in
-            let (c₄, h₄) = stands bs (r .cells) w e h₅ in
-            let (v, h₃) = stands bs (r .values) w d h₄ in
-            let (m, h₂) = stands bs (r .mask) w c h₃ in
-            let (d₁, h₁) = stands bs (r .«data») w b h₂ in
-            record { numbers = numbers bs n a h₁; data-stands = d₁; mask-stands = m; values-stand = v; cells-stand = c₄; others-stand = o };
-      }
+      let after : (p q : ℕ) → p ≡ q → afterBuffer bs p w ≡ afterBuffer bs q w = λ p q. ap (λ p. afterBuffer bs p w) in
+      let mask : r .mask ≡ afterCall bs n (w ∷ []) = b ∙ after _ _ a in
+      let values : r .values ≡ afterCall bs n (w ∷ w ∷ []) = c ∙ after _ _ mask in
+      let cells : r .cells ≡ afterCall bs n (w ∷ w ∷ w ∷ []) = d ∙ after _ _ values in
+      let others : r .others ≡ afterCall bs n (w ∷ w ∷ w ∷ w ∷ []) = e ∙ after _ _ cells in
+      let end : r .end ≡ afterCall bs n (w ∷ w ∷ w ∷ w ∷ 1 ∷ []) = f ∙ ap (λ p. afterBuffer bs p 1) others in
+      λ i. record { «data» = a i; mask = mask i; values = values i; cells = cells i; others = others i; end = end i }
+
+  -- where a write's buffers do not end at 0, all of it stands there
+  pub write-whole : (r : WritePlaces) → r ≡ writePlaces bs n w → (r .end ≡ 0 → ⊥) → WriteStands bs n w r
+  unfolding writePlaces afterCall afterBuffers
+  write-whole r e h = subst (WriteStands bs n w) (sym e) (whole (λ z. h (ap (λ p. p .end) e ∙ z)))
+    where
+      whole : (writePlaces bs n w .end ≡ 0 → ⊥) → WriteStands bs n w (writePlaces bs n w)
+      whole h =
+          let p : WritePlaces = writePlaces bs n w in
+          let o = stands bs (p .others) 1 h in
+          let c = stands bs (p .cells) w (o .place) in
+          let v = stands bs (p .values) w (c .place) in
+          let m = stands bs (p .mask) w (v .place) in
+          let d = stands bs (p .«data») w (m .place) in
+          record { numbers = numbers-stand bs n (d .place); data-stands = d; mask-stands = m; values-stand = v; cells-stand = c; others-stand = o }
 
   pub read-at : (r : ReadPlaces) → r .cells ≡ afterNumbers bs n → r .others ≡ afterBuffer bs (r .cells) w → r .shown ≡ afterBuffer bs (r .others) 1
-      → r .end ≡ afterBuffer bs (r .shown) w → ReadAt bs n w r
-  unfolding afterCall afterBuffers
+      → r .end ≡ afterBuffer bs (r .shown) w → r ≡ readPlaces bs n w
+  unfolding readPlaces afterCall afterBuffers
   read-at r a b c d =
-      let shown : r .shown ≡ afterCall bs n (w ∷ 1 ∷ []) = c ∙ ap (λ p. afterBuffer bs p 1) (b ∙ ap (λ p. afterBuffer bs p w) a) in
-      record {
-        shown = shown;
-        end = d ∙ ap (λ p. afterBuffer bs p w) shown;
-        whole = λ h.
-            let (s, h₃) = stands bs (r .shown) w d h in
-            let (o, h₂) = stands bs (r .others) 1 c h₃ in
-            let (c₁, h₁) = stands bs (r .cells) w b h₂ in
-            record { numbers = numbers bs n a h₁; cells-stand = c₁; others-stand = o; shown-stands = s };
-      }
+      let others : r .others ≡ afterCall bs n (w ∷ []) = b ∙ ap (λ p. afterBuffer bs p w) a in
+      let shown : r .shown ≡ afterCall bs n (w ∷ 1 ∷ []) = c ∙ ap (λ p. afterBuffer bs p 1) others in
+      let end : r .end ≡ afterCall bs n (w ∷ 1 ∷ w ∷ []) = d ∙ ap (λ p. afterBuffer bs p w) shown in
+      λ i. record { cells = a i; others = others i; shown = shown i; end = end i }
 
--- ---- elements
-
--- the elements of a buffer have as many bytes as it says
-pub length-elements : (bs : List ℕ) (p w q : ℕ) → Stands bs p w q → length (between bs p q) ≡ w * many bs p
-length-elements bs p w q h = rw (length-take, length-drop) (omega (arith, h .size, h .within))
-
--- what copying them leaves
-pub loaded-bytes : (bs : List ℕ) (p q r : ℕ) (src out after : List ℕ) → Stands bs p 1 q → 512 ≤ length out → src ≡ between bs p q → r ≡ length src
-    → after ≡ take (length src) src ++ drop (length src) out → length after ≡ length out → (r ≡ many bs p) × (Counts r after × (take r after ≡ between bs p q))
-loaded-bytes bs p q r src out after h l e k f j =
-    let m : r ≡ many bs p = omega (arith, k, ap length e, length-elements bs p 1 q h) in
-    let n : r ≤ length after = omega (arith, h .few) in
-    (m, ((n, sym (length-take-le r after n)), ap₂ take k f ∙ take-at (take (length src) src) (drop (length src) out) (length src) (length-take-le (length src) src (omega arith)) ∙ take-length src ∙ e))
-
-pub loaded-words : (bs : List ℕ) (p q r : ℕ) (src out part : List ℕ) → Stands bs p 8 q → 512 ≤ length out → src ≡ between bs p q → r ≡ many bs p
-    → part ≡ wordsOf (length (take r out)) src → length part ≡ length (take r out)
-    → (r ≡ many bs p) × (Counts r (part ++ drop r out) × (take r (part ++ drop r out) ≡ wordsOf r (between bs p q)))
-loaded-words bs p q r src out part h l e m f k =
-    let n : length (take r out) ≡ r = length-take-le r out (omega (arith, h .few)) in
-    let c : r ≤ length (part ++ drop r out) = rw (length-append, k, n) (omega arith) in
-    (m, ((c, sym (length-take-le r (part ++ drop r out) c)), take-at part (drop r out) r (k ∙ n) ∙ f ∙ ap₂ wordsOf n e))
+  pub read-whole : (r : ReadPlaces) → r ≡ readPlaces bs n w → (r .end ≡ 0 → ⊥) → ReadStands bs n w r
+  unfolding readPlaces afterCall afterBuffers
+  read-whole r e h = subst (ReadStands bs n w) (sym e) (whole (λ z. h (ap (λ p. p .end) e ∙ z)))
+    where
+      whole : (readPlaces bs n w .end ≡ 0 → ⊥) → ReadStands bs n w (readPlaces bs n w)
+      whole h =
+          let p : ReadPlaces = readPlaces bs n w in
+          let s = stands bs (p .shown) w h in
+          let o = stands bs (p .others) 1 (s .place) in
+          let c = stands bs (p .cells) w (o .place) in
+          record { numbers = numbers-stand bs n (c .place); cells-stand = c; others-stand = o; shown-stands = s }
 
 -- ---- lines
 
@@ -112,7 +82,7 @@ length-write-line number first second n xs ys p q l k =
 length-read-line : (number n : ℕ) (xs : List ℕ) → 0 < n → n ≤ 16 → length xs ≤ 512 → length (readLine number n xs) ≤ 9281
 length-read-line number n xs p q l = omega (arith, length-read (decimal number) (bufferText n xs), length-decimals 20 number, length-text n xs p l)
 
--- the line of an answer, and the room for it
+-- the room for the line of an answer
 pub write-fits : {m n q : ℕ} (p number first second digits : ℕ) (cells others : List ℕ) → 0 < digits → digits ≤ 16 → m ≤ 512 → n ≤ 512 → length cells ≡ m → length others ≡ n
     → p + 9281 ≤ q → p + length (writeLine number first second digits cells others) ≤ q
 write-fits p number first second digits cells others a b l k e f h =
@@ -121,101 +91,71 @@ write-fits p number first second digits cells others a b l k e f h =
 pub read-fits : {m q : ℕ} (p number digits : ℕ) (shown : List ℕ) → 0 < digits → digits ≤ 16 → m ≤ 512 → length shown ≡ m → p + 9281 ≤ q → p + length (readLine number digits shown) ≤ q
 read-fits p number digits shown a b l e h = omega (arith, length-read-line number digits shown a b (omega arith))
 
-pub write-line : {m n : ℕ} {before after : List ℕ} {p q : ℕ} (number first second digits : ℕ) (cells others : List ℕ) → 0 < digits → digits ≤ 16 → m ≤ 512 → n ≤ 512
-    → length cells ≡ m → length others ≡ n → Put (writeLine number first second digits cells others) before p after q → WriteLine digits m n before p after q
-write-line number first second digits cells others a b l k e f h = record {
-  number = number;
-  first = first;
-  second = second;
-  cells = cells;
-  others = others;
-  all = e;
-  rest = f;
-  short = length-write-line number first second digits cells others a b (omega arith) (omega arith);
-  put = h;
+-- an answer that is promised was put
+pub write-line : {Promised : ℕ → ℕ → ℕ → List ℕ → List ℕ → Type 0} {cells others before after : List ℕ} {p q : ℕ} (number first second digits : ℕ) (cells′ others′ : List ℕ)
+    → 0 < digits → digits ≤ 16 → length cells ≤ 512 → length others ≤ 512 → length cells′ ≡ length cells → length others′ ≡ length others
+    → Promised number first second cells′ others′ → Put (writeLine number first second digits cells′ others′) before p after q
+    → PutLine (WriteLine digits cells others Promised) before p after q
+write-line number first second digits cells′ others′ a b l k e f h put = record {
+  text = writeLine number first second digits cells′ others′;
+  line = record { number = number; first = first; second = second; cells′ = cells′; others′ = others′; promised = h; all = e; rest = f; shows = refl };
+  short = length-write-line number first second digits cells′ others′ a b (omega arith) (omega arith);
+  put = put;
 }
 
-pub read-line : {m : ℕ} {before after : List ℕ} {p q : ℕ} (number digits : ℕ) (shown : List ℕ) → 0 < digits → digits ≤ 16 → m ≤ 512 → length shown ≡ m
-    → Put (readLine number digits shown) before p after q → ReadLine digits m before p after q
-read-line number digits shown a b l e h = record { number = number; shown = shown; all = e; short = length-read-line number digits shown a b (omega arith); put = h }
+pub read-line : {Promised : ℕ → List ℕ → Type 0} {out before after : List ℕ} {p q : ℕ} (number digits : ℕ) (out′ : List ℕ) → 0 < digits → digits ≤ 16 → length out ≤ 512
+    → length out′ ≡ length out → Promised number out′ → Put (readLine number digits out′) before p after q → PutLine (ReadLine digits out Promised) before p after q
+read-line number digits out′ a b l e h put = record {
+  text = readLine number digits out′;
+  line = record { number = number; out′ = out′; promised = h; all = e; shows = refl };
+  short = length-read-line number digits out′ a b (omega arith);
+  put = put;
+}
 
--- the same line, its sizes by other names
-pub write-sizes : {m n k l : ℕ} {before after : List ℕ} {p q : ℕ} (digits : ℕ) → m ≡ k → n ≡ l → WriteLine digits m n before p after q → WriteLine digits k l before p after q
-write-sizes {m} {n} {k} {l} {before} {after} {p} {q} digits e f h = subst (λ x. WriteLine digits x l before p after q) e (subst (λ x. WriteLine digits m x before p after q) f h)
-
-pub read-sizes : {m k : ℕ} {before after : List ℕ} {p q : ℕ} (digits : ℕ) → m ≡ k → ReadLine digits m before p after q → ReadLine digits k before p after q
-read-sizes {m} {k} {before} {after} {p} {q} digits e h = subst (λ x. ReadLine digits x before p after q) e h
+-- the same line, its arguments by other names
+pub same-line : {Line Line′ : List ℕ → Type 0} {before after : List ℕ} {p q : ℕ} → PutLine Line before p after q → Line ≡ Line′ → PutLine Line′ before p after q
+same-line {Line} {Line′} {before} {after} {p} {q} h e = subst (λ L. PutLine L before p after q) e h
 
 -- ---- calls
 
-none : {Line : Type 0} (end e : ℕ) (out : List ℕ) (p : ℕ) → e ≡ end → e ≡ 0 → Called end Line 0 out p out p
-none end e out p h k = record { takes = sym k ∙ h; none = λ _. (refl, refl); line = λ j. absurd (j (sym h ∙ k)) }
+pub none : {Line : List ℕ → Type 0} {end : ℕ} {out : List ℕ} {p : ℕ} → 0 ≡ end → Called end Line 0 out p out p
+none h = record { takes = h; none = λ _. (refl, refl); made = λ j. absurd (j refl) }
 
-made : {Line : Type 0} {before after : List ℕ} {p q : ℕ} (end e : ℕ) → e ≡ end → (e ≡ 0 → ⊥) → Line → Called end Line e before p after q
-made end e h k l = record { takes = h; none = λ j. absurd (k (h ∙ j)); line = λ _. l }
-
-pub write-none : (bs : List ℕ) (n w digits : ℕ) (r : WritePlaces) (out : List ℕ) (p : ℕ) → WriteAt bs n w r → r .end ≡ 0 → Write n w digits bs 0 out p out p
-unfolding Write
-write-none bs n w digits r out p h k = none (afterCall bs n (w ∷ w ∷ w ∷ w ∷ 1 ∷ [])) (r .end) out p (h .end) k
-
-pub write-made : {before after : List ℕ} {p q : ℕ} (bs : List ℕ) (n w digits : ℕ) (r : WritePlaces) → WriteAt bs n w r → (r .end ≡ 0 → ⊥)
-    → WriteLine digits (many bs (r .cells)) (many bs (r .others)) before p after q → Write n w digits bs (r .end) before p after q
-unfolding Write
-write-made bs n w digits r h k l =
-    made (afterCall bs n (w ∷ w ∷ w ∷ w ∷ 1 ∷ [])) (r .end) (h .end) k (write-sizes digits (ap (many bs) (h .cells)) (ap (many bs) (h .others)) l)
-
-pub read-none : (bs : List ℕ) (n w digits : ℕ) (r : ReadPlaces) (out : List ℕ) (p : ℕ) → ReadAt bs n w r → r .end ≡ 0 → Read n w digits bs 0 out p out p
-unfolding Read
-read-none bs n w digits r out p h k = none (afterCall bs n (w ∷ 1 ∷ w ∷ [])) (r .end) out p (h .end) k
-
-pub read-made : {before after : List ℕ} {p q : ℕ} (bs : List ℕ) (n w digits : ℕ) (r : ReadPlaces) → ReadAt bs n w r → (r .end ≡ 0 → ⊥)
-    → ReadLine digits (many bs (r .shown)) before p after q → Read n w digits bs (r .end) before p after q
-unfolding Read
-read-made bs n w digits r h k l = made (afterCall bs n (w ∷ 1 ∷ w ∷ [])) (r .end) (h .end) k (read-sizes digits (ap (many bs) (h .shown)) l)
+-- a call whose line was said of the places that were found
+pub made : {Places : Type 0} {r r′ : Places} {before after : List ℕ} {p q : ℕ} (end : Places → ℕ) (Line : Places → List ℕ → Type 0) → r ≡ r′ → (end r ≡ 0 → ⊥)
+    → PutLine (Line r) before p after q → Called (end r′) (Line r′) (end r) before p after q
+made {Places} {r} {r′} {before} {after} {p} {q} end Line e h l = record {
+  takes = ap end e;
+  none = λ z. absurd (h z);
+  made = λ _. subst (λ r. PutLine (Line r) before p after q) e l;
+}
 
 -- ---- the call at the front
 
-pub call-1 : (bs : List ℕ) → getD bs 0 0 ≡ 1 → afterCall bs 1 (1 ∷ 1 ∷ 1 ∷ 1 ∷ 1 ∷ []) ≡ callEnd bs
-unfolding callEnd
+pub call-1 : (bs : List ℕ) → getD bs 0 0 ≡ 1 → writePlaces bs 1 1 .end ≡ callEnd bs
+unfolding callEnd writePlaces
 call-1 bs e = rw e
 
-pub call-2 : (bs : List ℕ) → getD bs 0 0 ≡ 2 → afterCall bs 1 (1 ∷ 1 ∷ 1 ∷ []) ≡ callEnd bs
-unfolding callEnd
+pub call-2 : (bs : List ℕ) → getD bs 0 0 ≡ 2 → readPlaces bs 1 1 .end ≡ callEnd bs
+unfolding callEnd readPlaces
 call-2 bs e = rw e
 
-pub call-3 : (bs : List ℕ) → getD bs 0 0 ≡ 3 → afterCall bs 3 (8 ∷ 8 ∷ 8 ∷ 8 ∷ 1 ∷ []) ≡ callEnd bs
-unfolding callEnd
+pub call-3 : (bs : List ℕ) → getD bs 0 0 ≡ 3 → writePlaces bs 3 8 .end ≡ callEnd bs
+unfolding callEnd writePlaces
 call-3 bs e = rw e
 
-pub call-4 : (bs : List ℕ) → getD bs 0 0 ≡ 4 → afterCall bs 3 (8 ∷ 1 ∷ 8 ∷ []) ≡ callEnd bs
-unfolding callEnd
+pub call-4 : (bs : List ℕ) → getD bs 0 0 ≡ 4 → readPlaces bs 3 8 .end ≡ callEnd bs
+unfolding callEnd readPlaces
 call-4 bs e = rw e
 
 pub call-0 : (bs : List ℕ) → (getD bs 0 0 ≡ 1 → ⊥) → (getD bs 0 0 ≡ 2 → ⊥) → (getD bs 0 0 ≡ 3 → ⊥) → (getD bs 0 0 ≡ 4 → ⊥) → 0 ≡ callEnd bs
 unfolding callEnd
 call-0 bs a b c d = rw (ne-eqb (getD bs 0 0) 1 a, ne-eqb (getD bs 0 0) 2 b, ne-eqb (getD bs 0 0) 3 c, ne-eqb (getD bs 0 0) 4 d)
 
-pub printed-none : {bs : List ℕ} (out : List ℕ) {p : ℕ} → 0 ≡ callEnd bs → Printed bs 0 out p out p
-printed-none out h = record { takes = h; text = []; short = omega arith; none = λ _. refl; put = put-nothing }
-
-printed : {bs : List ℕ} {Line : Type 0} {end taken : ℕ} {before after : List ℕ} {p q : ℕ} → end ≡ callEnd bs
-    → (Line → (text : List ℕ) × (length text ≤ 9281) × Put text before p after q) → Called end Line taken before p after q → Printed bs taken before p after q
-printed {bs} {Line} {end} {taken} {before} {after} {p} {q} e f h = go (ℕ-discrete end 0)
-  where
-    go : Dec (end ≡ 0) → Printed bs taken before p after q
-    go (yes k) =
-        let (i, j) = h .none k in
-        record { takes = h .takes ∙ e; text = []; short = omega arith; none = λ _. refl; put = subst (λ x. Put [] before p x q) (sym j) (subst (λ x. Put [] before p before x) (sym i) put-nothing) }
-    go (no k) =
-        let (text, l, t) = f (h .line k) in
-        record { takes = h .takes ∙ e; text = text; short = l; none = λ z. absurd (k (sym (h .takes) ∙ z)); put = t }
-
-pub printed-write : {bs : List ℕ} {taken : ℕ} {before after : List ℕ} {p q : ℕ} (n w digits : ℕ) → afterCall bs n (w ∷ w ∷ w ∷ w ∷ 1 ∷ []) ≡ callEnd bs
-    → Write n w digits bs taken before p after q → Printed bs taken before p after q
-unfolding Write
-printed-write n w digits e h = printed e (λ l. (writeLine (l .number) (l .first) (l .second) digits (l .cells) (l .others), l .short, l .put)) h
-
-pub printed-read : {bs : List ℕ} {taken : ℕ} {before after : List ℕ} {p q : ℕ} (n w digits : ℕ) → afterCall bs n (w ∷ 1 ∷ w ∷ []) ≡ callEnd bs
-    → Read n w digits bs taken before p after q → Printed bs taken before p after q
-unfolding Read
-printed-read n w digits e h = printed e (λ l. (readLine (l .number) digits (l .shown), l .short, l .put)) h
+pub printed : {bs : List ℕ} {Line : List ℕ → Type 0} {end taken tag : ℕ} {before after : List ℕ} {p q : ℕ} → getD bs 0 0 ≡ tag → end ≡ callEnd bs
+    → ((text : List ℕ) → Line text → LineOf bs text tag) → Called end Line taken before p after q → Printed bs taken before p after q
+printed {bs} t e f h = record {
+  takes = h .takes ∙ e;
+  none = h .none;
+  made = λ z. let l = h .made z in record { text = l .text; line = subst (LineOf bs (l .text)) (sym t) (f (l .text) (l .line)); short = l .short; put = l .put };
+}

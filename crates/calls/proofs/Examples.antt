@@ -4,13 +4,20 @@ use mathlib.Core.List.{List, [], _∷_, _++_}
 use Prim.Native.Nat.{ℕ}
 use lib.ListN.{length, take}
 use Rattle.bits.specs.Bits.{number, list}
-use Rattle.calls.specs.Format.{numberAt, wordsOf, isBuffer, afterNumbers, afterBuffer, afterBuffers, afterCall, callEnd}
+use Rattle.calls.specs.Format.{numberAt, callNumber, isBuffer, elements, afterNumbers, afterBuffer, afterBuffers, afterCall, callEnd}
 use Rattle.calls.specs.Text.{hexOf, decimals, decimal, hexes, dash, bufferText, line, writeLine, readLine}
 
 -- the lowest byte comes first
-numbers-of-bytes : (numberAt (9 ∷ 1 ∷ 2 ∷ []) 1 2 ≡ 513) × (wordsOf 2 (1 ∷ 0 ∷ 0 ∷ 0 ∷ 0 ∷ 0 ∷ 0 ∷ 1 ∷ 7 ∷ 0 ∷ 0 ∷ 0 ∷ 0 ∷ 0 ∷ 0 ∷ 0 ∷ []) ≡ 72057594037927937 ∷ 7 ∷ [])
-unfolding numberAt wordsOf number list
-numbers-of-bytes = (refl, refl)
+numbers-of-bytes : (numberAt (9 ∷ 1 ∷ 2 ∷ []) 1 2 ≡ 513) × (callNumber (9 ∷ 2 ∷ 1 ∷ 0 ∷ 0 ∷ 0 ∷ 0 ∷ 0 ∷ 0 ∷ 7 ∷ []) 0 ≡ 258)
+    × (callNumber (9 ∷ 2 ∷ 1 ∷ 0 ∷ 0 ∷ 0 ∷ 0 ∷ 0 ∷ 0 ∷ 7 ∷ []) 1 ≡ 7)
+unfolding numberAt number
+numbers-of-bytes = (refl, refl, refl)
+
+-- the elements of a buffer of bytes and of one of words, at place 1
+elements-of-bytes : (elements (9 ∷ 2 ∷ 0 ∷ 7 ∷ 8 ∷ 9 ∷ []) 1 1 ≡ 7 ∷ 8 ∷ [])
+    × (elements (9 ∷ 2 ∷ 0 ∷ 1 ∷ 0 ∷ 0 ∷ 0 ∷ 0 ∷ 0 ∷ 0 ∷ 1 ∷ 7 ∷ 0 ∷ 0 ∷ 0 ∷ 0 ∷ 0 ∷ 0 ∷ 0 ∷ []) 1 8 ≡ 72057594037927937 ∷ 7 ∷ [])
+unfolding elements numberAt number list
+elements-of-bytes = (refl, refl)
 
 -- at place 1, a buffer of two bytes: whole, cut short, and of 513 elements
 buffers-end : (afterBuffer (9 ∷ 2 ∷ 0 ∷ 7 ∷ 7 ∷ 9 ∷ []) 1 1 ≡ 5) × (afterBuffer (9 ∷ 2 ∷ 0 ∷ 7 ∷ []) 1 1 ≡ 0) × (afterBuffer (9 ∷ 1 ∷ 2 ∷ []) 1 0 ≡ 0) × (afterBuffer (9 ∷ 0 ∷ 2 ∷ []) 1 0 ≡ 3)

@@ -12,11 +12,11 @@ use lib.Seq.{take-append-le, drop-append-le}
 use borrow.Author.Tests.{le-leb, leb-true}
 use Rattle.bits.specs.Bits.{number}
 use Rattle.bits.proofs.TestLaws.{same-test}
-use Rattle.calls.specs.Format.{numberAt, many, isBuffer, afterNumbers, afterBuffer, afterBuffers, afterCall, callEnd}
-use Rattle.calls.proofs.FormatLaws.{Buffer, is-buffer, buffer-is}
+use Rattle.calls.specs.Format.{numberAt, many, isBuffer, Stands, afterNumbers, afterBuffer, afterBuffers, afterCall, callEnd}
+use Rattle.calls.proofs.FormatLaws.{is-buffer, buffer-is}
 
 -- the bytes that buffers of at most 512 elements take, by the widths of their elements
-abbrev most : List ℕ → ℕ
+abbrev pub most : List ℕ → ℕ
 most [] = 0
 most (w ∷ ws) = 2 + w * 512 + most ws
 
@@ -24,7 +24,7 @@ most (w ∷ ws) = 2 + w * 512 + most ws
 
 -- a buffer's end, whichever way it is judged
 module _ (bs : List ℕ) (p w : ℕ) where
-  after-cases : (P : ℕ → Type 0) → (Buffer bs p w → P (p + 2 + w * many bs p)) → P 0 → P (afterBuffer bs p w)
+  after-cases : (P : ℕ → Type 0) → (Stands bs p w → P (p + 2 + w * many bs p)) → P 0 → P (afterBuffer bs p w)
   unfolding afterBuffer
   after-cases P f z = go (isBuffer bs p w) refl
     where
@@ -67,7 +67,7 @@ longest bs n ws = omega (arith, afters-most bs (afterNumbers bs n) ws, numbers-c
 -- ---- bytes that follow
 
 module _ (bs rest : List ℕ) where
-  number-more : (p n : ℕ) → p + n ≤ length bs → numberAt (bs ++ rest) p n ≡ numberAt bs p n
+  pub number-more : (p n : ℕ) → p + n ≤ length bs → numberAt (bs ++ rest) p n ≡ numberAt bs p n
   unfolding numberAt
   number-more p n h =
       ap (λ l. number 256 (take n l)) (drop-append-le p bs rest (omega arith)) ∙ ap (number 256) (take-append-le n (drop p bs) rest (rw length-drop (omega arith)))
@@ -83,13 +83,13 @@ module _ (bs rest : List ℕ) where
       back e =
           let b = is-buffer (bs ++ rest) p w e in
           let l : many bs p ≤ 512 = omega (arith, same, b .few) in
-          buffer-is bs p w (record { place = b .place; counted = omega arith; few = l; whole = omega (arith, mul-le-mul-left w l) })
+          buffer-is bs p w (record { place = b .place; few = l; whole = omega (arith, mul-le-mul-left w l) })
 
       forth : isBuffer bs p w ≡ true → isBuffer (bs ++ rest) p w ≡ true
       forth e =
           let b = is-buffer bs p w e in
           let l : many (bs ++ rest) p ≤ 512 = omega (arith, same, b .few) in
-          buffer-is (bs ++ rest) p w (record { place = b .place; counted = rw length-append (omega (arith, b .counted)); few = l; whole = rw length-append (omega (arith, mul-le-mul-left w l)) })
+          buffer-is (bs ++ rest) p w (record { place = b .place; few = l; whole = rw length-append (omega (arith, mul-le-mul-left w l)) })
 
   buffers-more : (p : ℕ) (ws : List ℕ) → p + most ws ≤ length bs → afterBuffers (bs ++ rest) p ws ≡ afterBuffers bs p ws
   unfolding afterBuffers
@@ -101,7 +101,7 @@ module _ (bs rest : List ℕ) where
   unfolding afterNumbers
   numbers-more n h = rw (le-leb (1 + 8 * n) (length bs) h, le-leb (1 + 8 * n) (length (bs ++ rest)) (rw length-append (omega arith)))
 
-  more : (n : ℕ) (ws : List ℕ) → 1 + 8 * n + most ws ≤ length bs → afterCall (bs ++ rest) n ws ≡ afterCall bs n ws
+  pub more : (n : ℕ) (ws : List ℕ) → 1 + 8 * n + most ws ≤ length bs → afterCall (bs ++ rest) n ws ≡ afterCall bs n ws
   unfolding afterCall
   more n ws h =
       ap (λ p. afterBuffers (bs ++ rest) p ws) (numbers-more n (omega arith))

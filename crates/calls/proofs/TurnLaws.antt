@@ -14,10 +14,11 @@ use Rattle.bits.proofs.TestLaws.{and-right}
 use Rattle.calls.specs.declared.State.{State}
 use Rattle.calls.specs.Format.{callEnd}
 use Rattle.calls.specs.Text.{badCall, Put}
-use Rattle.calls.specs.Calls.{Printed}
+use Rattle.calls.specs.Calls.{LineOf, Printed}
 use Rattle.calls.specs.Stream.{left, Fetched, Turned}
-use Rattle.calls.proofs.TextLaws.{append-nil, put-same, put-both}
+use Rattle.calls.proofs.TextLaws.{append-nil}
 use Rattle.calls.proofs.StreamLaws.{call-more, call-within}
+use Rattle.calls.proofs.LineLaws.{line-more}
 
 -- ---- moving bytes to the front
 
@@ -73,41 +74,58 @@ judged : (bs rest : List ℕ) (more : Bool) → (more ≡ true → 16931 ≤ len
 judged bs rest true h k = call-more bs rest (h refl)
 judged bs rest false h k = ap (λ l. callEnd (bs ++ l)) (k refl) ∙ ap callEnd (append-nil bs)
 
+judged-line : (bs rest text : List ℕ) (more : Bool) → (more ≡ true → 16931 ≤ length bs) → (more ≡ false → rest ≡ []) → (callEnd bs ≡ 0 → ⊥)
+    → LineOf bs text (getD bs 0 0) → LineOf (bs ++ rest) text (getD (bs ++ rest) 0 0)
+judged-line bs rest text true h k z l = line-more bs rest text (h refl) z l
+judged-line bs rest text false h k z l = subst (λ b. LineOf b text (getD b 0 0)) (sym (ap (λ l. bs ++ l) (k refl) ∙ append-nil bs)) l
+
 module _ (s : State) (input before middle : List ℕ) (taken q : ℕ) (ended : s .end ≤ length input) (whole : s .more ≡ true → 16931 ≤ s .end - s .at)
     (h : Printed (left input (s .at) (s .end)) taken before (s .put) middle q) where
+  there : s .more ≡ true → 16931 ≤ length (left input (s .at) (s .end))
+  there t = subst (λ n. 16931 ≤ n) (sym (length-left input (s .at) (s .end) ended)) (whole t)
+
   used : (rest : List ℕ) → (s .more ≡ false → rest ≡ []) → s .at + taken ≡ s .at + callEnd (left input (s .at) (s .end) ++ rest)
-  used rest k =
-      ap (λ n. s .at + n)
-      (h .takes ∙ sym (judged (left input (s .at) (s .end)) rest (s .more) (λ t. subst (λ n. 16931 ≤ n) (sym (length-left input (s .at) (s .end) ended)) (whole t)) k))
+  used rest k = ap (λ n. s .at + n) (h .takes ∙ sym (judged (left input (s .at) (s .end)) rest (s .more) there k))
+
+  shown : {text : List ℕ} (rest : List ℕ) → (s .more ≡ false → rest ≡ []) → (callEnd (left input (s .at) (s .end)) ≡ 0 → ⊥)
+      → LineOf (left input (s .at) (s .end)) text (getD (left input (s .at) (s .end)) 0 0)
+      → LineOf (left input (s .at) (s .end) ++ rest) text (getD (left input (s .at) (s .end) ++ rest) 0 0)
+  shown {text} rest k z l = judged-line (left input (s .at) (s .end)) rest text (s .more) there k z l
 
   pub turned-none : {after : List ℕ} {r : ℕ} → s .at ≤ s .end → taken ≡ 0 → Put badCall middle q after r
       → Turned s input before (record { going = false; more = s .more; at = s .at; end = s .end; put = r }) after
   unfolding badCall
-  turned-none l z k = record {
-    used = λ rest i. let e = used rest i in omega arith;
-    same = (refl, refl);
-    within = l;
-    goes = λ i. absurd (i refl);
-    stops = λ _. refl;
-    text = badCall;
-    short = omega arith;
-    bad = λ _. refl;
-    put = put-same (ap (λ t. t ++ badCall) (h .none z)) (put-both (h .put) k);
-  }
+  turned-none {after} {r} l z k =
+      let (e, f) = h .none z in
+      record {
+        used = λ rest i. let e = used rest i in omega arith;
+        same = (refl, refl);
+        within = l;
+        goes = λ i. absurd (i refl);
+        stops = λ _. refl;
+        text = badCall;
+        short = omega arith;
+        line = λ i. absurd (i refl);
+        bad = λ _. refl;
+        put = subst (λ x. Put badCall before x after r) e (subst (λ x. Put badCall x q after r) f k);
+      }
 
   pub turned-made : s .at ≤ s .end → (taken ≡ 0 → ⊥) → Turned s input before (record { going = true; more = s .more; at = s .at + taken; end = s .end; put = q }) middle
-  turned-made l z = record {
-    used = used;
-    same = (refl, refl);
-    within = omega (arith, h .takes, call-within (left input (s .at) (s .end)), length-left input (s .at) (s .end) ended);
-    goes = λ _. refl;
-    stops = λ e. absurd (z (omega arith));
-    text = h .text;
-    short = h .short;
-    bad = λ e. absurd (z (omega arith));
-    put = h .put;
-  }
+  turned-made l z =
+      let m = h .made z in
+      record {
+        used = used;
+        same = (refl, refl);
+        within = omega (arith, h .takes, call-within (left input (s .at) (s .end)), length-left input (s .at) (s .end) ended);
+        goes = λ _. refl;
+        stops = λ e. absurd (z (omega arith));
+        text = m .text;
+        short = m .short;
+        line = λ _ rest i. shown rest i (λ e. z (h .takes ∙ e)) (m .line);
+        bad = λ e. absurd (z (omega arith));
+        put = m .put;
+      }
 
   -- where there is no call, nothing was put
   pub none-put : taken ≡ 0 → q ≡ s .put
-  none-put z = omega (arith, h .put .end, ap length (h .none z))
+  none-put z = h .none z .0

@@ -3,7 +3,7 @@
 use mathlib.Core.Path.{_≡_}
 use mathlib.Core.Bool.{Bool, cond, not, _&&_}
 use mathlib.Core.List.{List, [], _∷_}
-use Prim.Native.Nat.{ℕ, _+_, _-_, _*_, _≤_}
+use Prim.Native.Nat.{ℕ, _+_, _*_, _≤_}
 use lib.Dec.{eqb, leb}
 use lib.ListN.{length, take, drop, getD}
 use Rattle.bits.specs.Bits.{number, list}
@@ -12,9 +12,9 @@ use Rattle.bits.specs.Bits.{number, list}
 unfoldable pub numberAt : List ℕ → ℕ → ℕ → ℕ
 numberAt bs p n = number 256 (take n (drop p bs))
 
--- m words, eight bytes each
-unfoldable pub wordsOf : ℕ → List ℕ → List ℕ
-wordsOf m bs = list m (λ i. numberAt bs (8 * i) 8)
+-- number i of a call, from 0 on: they follow the tag, eight bytes each
+abbrev pub callNumber : List ℕ → ℕ → ℕ
+callNumber bs i = numberAt bs (1 + 8 * i) 8
 
 -- where a call's n numbers end, that follow the tag
 unfoldable pub afterNumbers : List ℕ → ℕ → ℕ
@@ -32,15 +32,15 @@ isBuffer bs p w = not (eqb p 0) && leb (p + 2) (length bs) && leb (many bs p) 51
 unfoldable pub afterBuffer : List ℕ → ℕ → ℕ → ℕ
 afterBuffer bs p w = cond (isBuffer bs p w) (p + 2 + w * many bs p) 0
 
--- a buffer with elements of w bytes stands whole from place p to place q
-pub record Stands (bs : List ℕ) (p w q : ℕ) : Type 0 where
-  pub size : p + 2 + w * many bs p ≡ q
+-- so it stands there
+pub record Stands (bs : List ℕ) (p w : ℕ) : Type 0 where
+  pub place : p ≡ 0 → ⊥
   pub few : many bs p ≤ 512
-  pub within : q ≤ length bs
+  pub whole : p + 2 + w * many bs p ≤ length bs
 
--- the bytes of its elements
-abbrev pub between : List ℕ → ℕ → ℕ → List ℕ
-between bs p q = take (q - (p + 2)) (drop (p + 2) bs)
+-- its elements
+unfoldable pub elements : List ℕ → ℕ → ℕ → List ℕ
+elements bs p w = list (many bs p) (λ i. numberAt bs (p + 2 + w * i) w)
 
 -- where buffers end that follow each other, with elements of these widths
 unfoldable pub afterBuffers : List ℕ → ℕ → List ℕ → ℕ

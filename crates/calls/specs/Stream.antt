@@ -4,10 +4,11 @@ use mathlib.Core.Path.{_≡_}
 use mathlib.Core.Bool.{true, false}
 use mathlib.Core.List.{List, [], _++_}
 use Prim.Native.Nat.{ℕ, _+_, _-_, _≤_}
-use lib.ListN.{length, take, drop}
+use lib.ListN.{length, getD, take, drop}
 use Rattle.calls.specs.declared.State.{State}
 use Rattle.calls.specs.Format.{callEnd}
 use Rattle.calls.specs.Text.{badCall, Put}
+use Rattle.calls.specs.Calls.{LineOf}
 
 -- the bytes from one place of a buffer to another
 abbrev pub left : List ℕ → ℕ → ℕ → List ℕ
@@ -28,7 +29,8 @@ pub record Fetched (s : State) (before : List ℕ) (r : State) (after : List ℕ
   pub ended : r .end ≤ length after
   pub written : r .put ≡ s .put
 
--- a call was made, or there was none. Whatever is still to come, it is the call at the front of all the input from here on
+-- a call was made and its line was put, or there was none and `bad call` was. Whatever is still to come, it is the call at the front of all the input from
+-- here on
 pub record Turned (s : State) (input before : List ℕ) (r : State) (after : List ℕ) : Type 0 where
   pub used : (rest : List ℕ) → (s .more ≡ false → rest ≡ []) → r .at ≡ s .at + callEnd (left input (s .at) (s .end) ++ rest)
   pub same : (r .end ≡ s .end) × (r .more ≡ s .more)
@@ -37,5 +39,7 @@ pub record Turned (s : State) (input before : List ℕ) (r : State) (after : Lis
   pub stops : r .at ≡ s .at → r .going ≡ false
   pub text : List ℕ
   pub short : length text ≤ 9281
+  pub line : (r .at ≡ s .at → ⊥) → (rest : List ℕ) → (s .more ≡ false → rest ≡ [])
+      → LineOf (left input (s .at) (s .end) ++ rest) text (getD (left input (s .at) (s .end) ++ rest) 0 0)
   pub bad : r .at ≡ s .at → text ≡ badCall
   pub put : Put text before (s .put) after (r .put)

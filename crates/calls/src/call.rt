@@ -1,14 +1,13 @@
 // The four calls: each finds its numbers and buffers, makes the call and puts its line.
 ghost use Prim.Native.Nat.{_+_, _≤_, _<_};
 ghost use lib.ListN.{length};
-ghost use Rattle.calls.specs.Format.{many};
-ghost use Rattle.calls.specs.Calls.{WriteStands, ReadStands, WriteLine, ReadLine, Write, Read, Printed};
+ghost use Rattle.calls.specs.Calls.{writePlaces, readPlaces, WriteStands, ReadStands, PointerWrite, PointerRead, GridWrite, GridRead, PointerWriteAt, PointerReadAt, GridWriteAt, GridReadAt, PutLine, Called, Printed};
 use crate::input::ReadPlaces;
 use crate::input::WritePlaces;
+use crate::input::call_number;
 use crate::input::elements;
 use crate::input::load_bytes;
 use crate::input::load_words;
-use crate::input::number_at;
 use crate::input::read_places;
 use crate::input::write_places;
 use crate::print::put_grid_read;
@@ -36,7 +35,7 @@ fn answer_pointer_write(
     requires { ⌜ length (now cells) ≤ 512 ⌝ }
     requires { ⌜ length (now metadata) ≤ 512 ⌝ }
     requires { ⌜ put + 9281 ≤ length (now out) ⌝ }
-    ensures { λ r. ⌜ WriteLine 2 (length (now (cells .entry))) (length (now (metadata .entry))) (now (out .entry)) put (now (out .exit)) r ⌝ }
+    ensures { λ r. ⌜ PutLine (PointerWrite n (now (wanted .entry)) (now (mask .entry)) (now (values .entry)) (now (cells .entry)) (now (metadata .entry))) (now (out .entry)) put (now (out .exit)) r ⌝ }
 {
     let r = pointer::write(n, wanted, mask, values, cells, metadata);
     put_pointer_write(out, put, r.number, r.active, r.new, cells, metadata)
@@ -46,21 +45,17 @@ fn answer_pointer_write(
 fn take_pointer_write(s: &[u8], p: WritePlaces, out: &mut [u8], put: usize) -> usize
     requires { ⌜ WriteStands (now s) 1 1 p ⌝ }
     requires { ⌜ put + 9281 ≤ length (now out) ⌝ }
-    ensures { λ r. ⌜ WriteLine 2 (many (now (s .entry)) (p .cells)) (many (now (s .entry)) (p .others)) (now (out .entry)) put (now (out .exit)) r ⌝ }
+    ensures { λ r. ⌜ PutLine (PointerWriteAt (now (s .entry)) p) (now (out .entry)) put (now (out .exit)) r ⌝ }
 {
     let mut cells = [0u8; 512];
     let mut metadata = [0u8; 512];
-    let i = load_bytes(s, p.cells, p.others, &mut cells);
-    let j = load_bytes(s, p.others, p.end, &mut metadata);
-    let n = number_at(s, 1, 8) as usize;
-    let wanted = elements(s, p.data, p.mask);
-    let mask = elements(s, p.mask, p.values);
-    let values = elements(s, p.values, p.cells);
+    let i = load_bytes(s, p.cells, &mut cells);
+    let j = load_bytes(s, p.others, &mut metadata);
     answer_pointer_write(
-        n,
-        wanted,
-        mask,
-        values,
+        call_number(s, 0),
+        elements(s, p.data),
+        elements(s, p.mask),
+        elements(s, p.values),
         &mut cells[..i],
         &mut metadata[..j],
         out,
@@ -70,7 +65,7 @@ fn take_pointer_write(s: &[u8], p: WritePlaces, out: &mut [u8], put: usize) -> u
 
 fn pointer_write(s: &[u8], out: &mut [u8], put: usize) -> Made
     requires { ⌜ put + 9281 ≤ length (now out) ⌝ }
-    ensures { λ r. ⌜ Write 1 1 2 (now (s .entry)) (r .taken) (now (out .entry)) put (now (out .exit)) (r .put) ⌝ }
+    ensures { λ r. ⌜ Called (writePlaces (now (s .entry)) 1 1 .end) (PointerWriteAt (now (s .entry)) (writePlaces (now (s .entry)) 1 1)) (r .taken) (now (out .entry)) put (now (out .exit)) (r .put) ⌝ }
 {
     let p = write_places(s, 1, 1);
     if p.end == 0 {
@@ -93,7 +88,7 @@ fn answer_pointer_read(
 ) -> usize
     requires { ⌜ length (now shown) ≤ 512 ⌝ }
     requires { ⌜ put + 9281 ≤ length (now out) ⌝ }
-    ensures { λ r. ⌜ ReadLine 2 (length (now (shown .entry))) (now (out .entry)) put (now (out .exit)) r ⌝ }
+    ensures { λ r. ⌜ PutLine (PointerRead n (now (cells .entry)) (now (metadata .entry)) (now (shown .entry))) (now (out .entry)) put (now (out .exit)) r ⌝ }
 {
     let r = pointer::read(n, cells, metadata, shown);
     put_pointer_read(out, put, r.number, shown)
@@ -102,19 +97,23 @@ fn answer_pointer_read(
 fn take_pointer_read(s: &[u8], p: ReadPlaces, out: &mut [u8], put: usize) -> usize
     requires { ⌜ ReadStands (now s) 1 1 p ⌝ }
     requires { ⌜ put + 9281 ≤ length (now out) ⌝ }
-    ensures { λ r. ⌜ ReadLine 2 (many (now (s .entry)) (p .shown)) (now (out .entry)) put (now (out .exit)) r ⌝ }
+    ensures { λ r. ⌜ PutLine (PointerReadAt (now (s .entry)) p) (now (out .entry)) put (now (out .exit)) r ⌝ }
 {
     let mut shown = [0u8; 512];
-    let i = load_bytes(s, p.shown, p.end, &mut shown);
-    let n = number_at(s, 1, 8) as usize;
-    let cells = elements(s, p.cells, p.others);
-    let metadata = elements(s, p.others, p.shown);
-    answer_pointer_read(n, cells, metadata, &mut shown[..i], out, put)
+    let i = load_bytes(s, p.shown, &mut shown);
+    answer_pointer_read(
+        call_number(s, 0),
+        elements(s, p.cells),
+        elements(s, p.others),
+        &mut shown[..i],
+        out,
+        put,
+    )
 }
 
 fn pointer_read(s: &[u8], out: &mut [u8], put: usize) -> Made
     requires { ⌜ put + 9281 ≤ length (now out) ⌝ }
-    ensures { λ r. ⌜ Read 1 1 2 (now (s .entry)) (r .taken) (now (out .entry)) put (now (out .exit)) (r .put) ⌝ }
+    ensures { λ r. ⌜ Called (readPlaces (now (s .entry)) 1 1 .end) (PointerReadAt (now (s .entry)) (readPlaces (now (s .entry)) 1 1)) (r .taken) (now (out .entry)) put (now (out .exit)) (r .put) ⌝ }
 {
     let p = read_places(s, 1, 1);
     if p.end == 0 {
@@ -142,7 +141,7 @@ fn answer_grid_write(
     requires { ⌜ length (now cells) ≤ 512 ⌝ }
     requires { ⌜ length (now counters) ≤ 512 ⌝ }
     requires { ⌜ put + 9281 ≤ length (now out) ⌝ }
-    ensures { λ r. ⌜ WriteLine 16 (length (now (cells .entry))) (length (now (counters .entry))) (now (out .entry)) put (now (out .exit)) r ⌝ }
+    ensures { λ r. ⌜ PutLine (GridWrite rows columns k (now (wanted .entry)) (now (mask .entry)) (now (values .entry)) (now (cells .entry)) (now (counters .entry))) (now (out .entry)) put (now (out .exit)) r ⌝ }
 {
     let r = grid::write(rows, columns, k, wanted, mask, values, cells, counters);
     put_grid_write(out, put, r.number, r.levels, r.faults, cells, counters)
@@ -151,25 +150,22 @@ fn answer_grid_write(
 fn take_grid_write(s: &[u8], p: WritePlaces, out: &mut [u8], put: usize) -> usize
     requires { ⌜ WriteStands (now s) 3 8 p ⌝ }
     requires { ⌜ put + 9281 ≤ length (now out) ⌝ }
-    ensures { λ r. ⌜ WriteLine 16 (many (now (s .entry)) (p .cells)) (many (now (s .entry)) (p .others)) (now (out .entry)) put (now (out .exit)) r ⌝ }
+    ensures { λ r. ⌜ PutLine (GridWriteAt (now (s .entry)) p) (now (out .entry)) put (now (out .exit)) r ⌝ }
 {
     let mut wanted = [0u64; 512];
     let mut mask = [0u64; 512];
     let mut values = [0u64; 512];
     let mut cells = [0u64; 512];
     let mut counters = [0u8; 512];
-    let d = load_words(s, p.data, p.mask, &mut wanted);
-    let m = load_words(s, p.mask, p.values, &mut mask);
-    let v = load_words(s, p.values, p.cells, &mut values);
-    let i = load_words(s, p.cells, p.others, &mut cells);
-    let j = load_bytes(s, p.others, p.end, &mut counters);
-    let rows = number_at(s, 1, 8) as usize;
-    let columns = number_at(s, 9, 8) as usize;
-    let k = number_at(s, 17, 8) as usize;
+    let d = load_words(s, p.data, &mut wanted);
+    let m = load_words(s, p.mask, &mut mask);
+    let v = load_words(s, p.values, &mut values);
+    let i = load_words(s, p.cells, &mut cells);
+    let j = load_bytes(s, p.others, &mut counters);
     answer_grid_write(
-        rows,
-        columns,
-        k,
+        call_number(s, 0),
+        call_number(s, 1),
+        call_number(s, 2),
         &wanted[..d],
         &mask[..m],
         &values[..v],
@@ -182,7 +178,7 @@ fn take_grid_write(s: &[u8], p: WritePlaces, out: &mut [u8], put: usize) -> usiz
 
 fn grid_write(s: &[u8], out: &mut [u8], put: usize) -> Made
     requires { ⌜ put + 9281 ≤ length (now out) ⌝ }
-    ensures { λ r. ⌜ Write 3 8 16 (now (s .entry)) (r .taken) (now (out .entry)) put (now (out .exit)) (r .put) ⌝ }
+    ensures { λ r. ⌜ Called (writePlaces (now (s .entry)) 3 8 .end) (GridWriteAt (now (s .entry)) (writePlaces (now (s .entry)) 3 8)) (r .taken) (now (out .entry)) put (now (out .exit)) (r .put) ⌝ }
 {
     let p = write_places(s, 3, 8);
     if p.end == 0 {
@@ -207,7 +203,7 @@ fn answer_grid_read(
 ) -> usize
     requires { ⌜ length (now shown) ≤ 512 ⌝ }
     requires { ⌜ put + 9281 ≤ length (now out) ⌝ }
-    ensures { λ r. ⌜ ReadLine 16 (length (now (shown .entry))) (now (out .entry)) put (now (out .exit)) r ⌝ }
+    ensures { λ r. ⌜ PutLine (GridRead rows columns k (now (cells .entry)) (now (counters .entry)) (now (shown .entry))) (now (out .entry)) put (now (out .exit)) r ⌝ }
 {
     let r = grid::read(rows, columns, k, cells, counters, shown);
     put_grid_read(out, put, r.number, shown)
@@ -216,22 +212,18 @@ fn answer_grid_read(
 fn take_grid_read(s: &[u8], p: ReadPlaces, out: &mut [u8], put: usize) -> usize
     requires { ⌜ ReadStands (now s) 3 8 p ⌝ }
     requires { ⌜ put + 9281 ≤ length (now out) ⌝ }
-    ensures { λ r. ⌜ ReadLine 16 (many (now (s .entry)) (p .shown)) (now (out .entry)) put (now (out .exit)) r ⌝ }
+    ensures { λ r. ⌜ PutLine (GridReadAt (now (s .entry)) p) (now (out .entry)) put (now (out .exit)) r ⌝ }
 {
     let mut cells = [0u64; 512];
     let mut shown = [0u64; 512];
-    let c = load_words(s, p.cells, p.others, &mut cells);
-    let i = load_words(s, p.shown, p.end, &mut shown);
-    let rows = number_at(s, 1, 8) as usize;
-    let columns = number_at(s, 9, 8) as usize;
-    let k = number_at(s, 17, 8) as usize;
-    let counters = elements(s, p.others, p.shown);
+    let c = load_words(s, p.cells, &mut cells);
+    let i = load_words(s, p.shown, &mut shown);
     answer_grid_read(
-        rows,
-        columns,
-        k,
+        call_number(s, 0),
+        call_number(s, 1),
+        call_number(s, 2),
         &cells[..c],
-        counters,
+        elements(s, p.others),
         &mut shown[..i],
         out,
         put,
@@ -240,7 +232,7 @@ fn take_grid_read(s: &[u8], p: ReadPlaces, out: &mut [u8], put: usize) -> usize
 
 fn grid_read(s: &[u8], out: &mut [u8], put: usize) -> Made
     requires { ⌜ put + 9281 ≤ length (now out) ⌝ }
-    ensures { λ r. ⌜ Read 3 8 16 (now (s .entry)) (r .taken) (now (out .entry)) put (now (out .exit)) (r .put) ⌝ }
+    ensures { λ r. ⌜ Called (readPlaces (now (s .entry)) 3 8 .end) (GridReadAt (now (s .entry)) (readPlaces (now (s .entry)) 3 8)) (r .taken) (now (out .entry)) put (now (out .exit)) (r .put) ⌝ }
 {
     let p = read_places(s, 3, 8);
     if p.end == 0 {

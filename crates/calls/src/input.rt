@@ -1,11 +1,10 @@
 // Numbers and buffers as they stand in the input.
 ghost use mathlib.Core.Path.{_≡_};
 ghost use Prim.Native.Nat.{_+_, _*_, _≤_};
-ghost use lib.ListN.{length, take};
-ghost use Rattle.io.specs.Counts.{Counts};
+ghost use lib.ListN.{length};
 ghost use Rattle.bits.specs.Bits.{number};
-ghost use Rattle.calls.specs.Format.{numberAt, wordsOf, many, Stands, between, afterNumbers, afterBuffer};
-ghost use Rattle.calls.specs.Calls.{WriteAt, ReadAt};
+ghost use Rattle.calls.specs.Format.{numberAt, callNumber, Stands, elements, afterNumbers, afterBuffer};
+ghost use Rattle.calls.specs.Calls.{writePlaces, readPlaces, Loaded};
 
 // A byte as a wider number.
 fn wide(b: u8) -> u64
@@ -36,16 +35,12 @@ pub fn number_at(s: &[u8], at: usize, n: usize) -> u64
     number_of(&s[at..at + n])
 }
 
-// The words that the bytes make, eight a word.
-fn words(s: &[u8], out: &mut [u64])
-    requires { ⌜ length (now s) ≡ 8 * length (now out) ⌝ }
-    ensures { λ _. ⌜ now (out .exit) ≡ wordsOf (length (now (out .entry))) (now (s .entry)) ⌝ }
+// A call's number i, from 0 on.
+pub fn call_number(s: &[u8], i: usize) -> usize
+    requires { ⌜ (i ≤ 2) × (1 + 8 * (i + 1) ≤ length (now s)) ⌝ }
+    ensures { λ r. ⌜ r ≡ callNumber (now (s .entry)) i ⌝ }
 {
-    let mut i = 0;
-    while i < out.len() {
-        out[i] = number_at(s, 8 * i, 8);
-        i += 1;
-    }
+    number_at(s, 1 + 8 * i, 8) as usize
 }
 
 // Where a call's numbers end, 0 where they are cut short.
@@ -95,7 +90,7 @@ pub struct WritePlaces {
 // The places of a write with n numbers, whose elements take width bytes, but for the last buffer's, which are bytes. They end at 0 where it is none.
 pub fn write_places(s: &[u8], n: usize, width: usize) -> WritePlaces
     requires { ⌜ (n ≤ 3) × (width ≤ 8) ⌝ }
-    ensures { λ r. ⌜ WriteAt (now (s .entry)) n width r ⌝ }
+    ensures { λ r. ⌜ r ≡ writePlaces (now (s .entry)) n width ⌝ }
 {
     let data = after_numbers(s, n);
     let mask = after_buffer(s, data, width);
@@ -124,7 +119,7 @@ pub struct ReadPlaces {
 // The places of a read with n numbers, whose cells and output take width bytes an element. They end at 0 where it is none.
 pub fn read_places(s: &[u8], n: usize, width: usize) -> ReadPlaces
     requires { ⌜ (n ≤ 3) × (width ≤ 8) ⌝ }
-    ensures { λ r. ⌜ ReadAt (now (s .entry)) n width r ⌝ }
+    ensures { λ r. ⌜ r ≡ readPlaces (now (s .entry)) n width ⌝ }
 {
     let cells = after_numbers(s, n);
     let others = after_buffer(s, cells, width);
@@ -138,35 +133,37 @@ pub fn read_places(s: &[u8], n: usize, width: usize) -> ReadPlaces
     }
 }
 
-// The bytes of the elements of a buffer, between its places.
-pub fn elements(s: &[u8], from: usize, to: usize) -> &[u8]
-    requires { ⌜ (from + 2 ≤ to) × (to ≤ length (now s)) ⌝ }
-    ensures { λ r. ⌜ now r ≡ between (now (s .entry)) from to ⌝ }
+// The elements of a buffer of bytes.
+pub fn elements(s: &[u8], at: usize) -> &[u8]
+    requires { ⌜ Stands (now s) at 1 ⌝ }
+    ensures { λ r. ⌜ now r ≡ elements (now (s .entry)) at 1 ⌝ }
 {
-    let first = from + 2;
-    &s[first..to]
+    let first = at + 2;
+    let end = first + number_at(s, at, 2) as usize;
+    &s[first..end]
 }
 
-// Copies a buffer of bytes, and says how many elements it has.
-pub fn load_bytes(s: &[u8], from: usize, to: usize, out: &mut [u8]) -> usize
-    requires { ⌜ Stands (now s) from 1 to ⌝ }
+// Copies the elements of a buffer of bytes, and says how many there are.
+pub fn load_bytes(s: &[u8], at: usize, out: &mut [u8]) -> usize
+    requires { ⌜ Stands (now s) at 1 ⌝ }
     requires { ⌜ 512 ≤ length (now out) ⌝ }
-    ensures { λ r. ⌜ r ≡ many (now (s .entry)) from ⌝ }
-    ensures { λ r. ⌜ Counts r (now (out .exit)) ⌝ }
-    ensures { λ r. ⌜ take r (now (out .exit)) ≡ between (now (s .entry)) from to ⌝ }
+    ensures { λ r. ⌜ Loaded (now (s .entry)) at 1 (now (out .exit)) r ⌝ }
 {
-    bytes::copy(elements(s, from, to), out)
+    bytes::copy(elements(s, at), out)
 }
 
-// Copies a buffer of words, and says how many elements it has.
-pub fn load_words(s: &[u8], from: usize, to: usize, out: &mut [u64]) -> usize
-    requires { ⌜ Stands (now s) from 8 to ⌝ }
+// The same of a buffer of words.
+pub fn load_words(s: &[u8], at: usize, out: &mut [u64]) -> usize
+    requires { ⌜ Stands (now s) at 8 ⌝ }
     requires { ⌜ 512 ≤ length (now out) ⌝ }
-    ensures { λ r. ⌜ r ≡ many (now (s .entry)) from ⌝ }
-    ensures { λ r. ⌜ Counts r (now (out .exit)) ⌝ }
-    ensures { λ r. ⌜ take r (now (out .exit)) ≡ wordsOf r (between (now (s .entry)) from to) ⌝ }
+    ensures { λ r. ⌜ Loaded (now (s .entry)) at 8 (now (out .exit)) r ⌝ }
 {
-    let n = number_at(s, from, 2) as usize;
-    words(elements(s, from, to), &mut out[..n]);
+    let first = at + 2;
+    let n = number_at(s, at, 2) as usize;
+    let mut i = 0;
+    while i < n {
+        out[i] = number_at(s, first + 8 * i, 8);
+        i += 1;
+    }
     n
 }

@@ -22,4 +22,4 @@ answer-grid-read-spec =
     -- returns
     (λ c.
     let w = c .before .before .before .before .before .before .before .read in
-    read-line _ 16 _ (lit< tt) (lit≤ tt) (c .before .before .before .before .before .before .before .before .before .before .before .before .before .pre .0) (w .kept .1 .1 .1 .1 .1 .0) (c .before .before .put-grid-read .ensures)))
+    read-line _ 16 _ (lit< tt) (lit≤ tt) (c .before .before .before .before .before .before .before .before .before .before .before .before .before .pre .0) (w .kept .1 .1 .1 .1 .1 .0) (w .ensures) (c .before .before .put-grid-read .ensures)))

@@ -25,4 +25,4 @@ answer-grid-write-spec =
     (λ c.
     let w = c .before .before .before .before .before .before .before .before .before .before .write in
     let p = c .before .before .before .before .before .before .before .before .before .before .before .before .before .before .before .before .before .before .before .pre in
-    write-line _ _ _ 16 _ _ (lit< tt) (lit≤ tt) (p .0) (p .1 .0) (w .kept .1 .1 .1 .1 .1 .1 .0) (w .kept .1 .1 .1 .1 .1 .1 .1 .0) (c .before .before .put-grid-write .ensures)))
+    write-line _ _ _ 16 _ _ (lit< tt) (lit≤ tt) (p .0) (p .1 .0) (w .kept .1 .1 .1 .1 .1 .1 .0) (w .kept .1 .1 .1 .1 .1 .1 .1 .0) (w .ensures) (c .before .before .put-grid-write .ensures)))

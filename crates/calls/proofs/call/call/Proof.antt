@@ -1,5 +1,6 @@
 use borrow.Author.Needs.{needs}
-use Rattle.calls.proofs.CallLaws.{call-0, call-1, call-2, call-3, call-4, printed-write, printed-read, printed-none}
+use Rattle.calls.specs.Calls.{pointerWrite, pointerRead, gridWrite, gridRead}
+use Rattle.calls.proofs.CallLaws.{call-0, call-1, call-2, call-3, call-4, none, printed}
 use Rattle.calls.proofs.call.call.Statement.{statement}
 use Rattle.calls.proofs.call.call.Tie as tie
 
@@ -14,24 +15,24 @@ call-spec =
     -- same-length
     (λ c. c .before .before .pointer-write .kept .1 .0)
     -- returns
-    (λ c. printed-write 1 1 2 (call-1 _ (c .before .before .before .before .if1 .taken)) (c .before .before .pointer-write .ensures))
+    (λ c. let t = c .before .before .before .before .if1 .taken in printed t (call-1 _ t) (λ _. pointerWrite) (c .before .before .pointer-write .ensures))
     -- pointer-read-requires
     (λ c κs. c .before .before .before .before .before .before .pre .1)
     -- same-length-2
     (λ c. c .before .before .pointer-read .kept .1 .0)
     -- returns-2
-    (λ c. printed-read 1 1 2 (call-2 _ (c .before .before .before .before .if2 .taken)) (c .before .before .pointer-read .ensures))
+    (λ c. let t = c .before .before .before .before .if2 .taken in printed t (call-2 _ t) (λ _. pointerRead) (c .before .before .pointer-read .ensures))
     -- grid-write-requires
     (λ c κs. c .before .before .before .before .before .before .before .pre .1)
     -- same-length-3
     (λ c. c .before .before .grid-write .kept .1 .0)
     -- returns-3
-    (λ c. printed-write 3 8 16 (call-3 _ (c .before .before .before .before .if3 .taken)) (c .before .before .grid-write .ensures))
+    (λ c. let t = c .before .before .before .before .if3 .taken in printed t (call-3 _ t) (λ _. gridWrite) (c .before .before .grid-write .ensures))
     -- grid-read-requires
     (λ c κs. c .before .before .before .before .before .before .before .before .pre .1)
     -- same-length-4
     (λ c. c .before .before .grid-read .kept .1 .0)
     -- returns-4
-    (λ c. printed-read 3 8 16 (call-4 _ (c .before .before .before .before .if4 .taken)) (c .before .before .grid-read .ensures))
+    (λ c. let t = c .before .before .before .before .if4 .taken in printed t (call-4 _ t) (λ _. gridRead) (c .before .before .grid-read .ensures))
     -- returns-5
-    (λ c. printed-none _ (call-0 _ (c .before .before .before .if1 .left) (c .before .before .if2 .left) (c .before .if3 .left) (c .if4 .left))))
+    (λ c. none (call-0 _ (c .before .before .before .if1 .left) (c .before .before .if2 .left) (c .before .if3 .left) (c .if4 .left))))

@@ -1,6 +1,6 @@
-use mathlib.Core.Path.{sym, _∙_}
-use Rattle.calls.proofs.CallLaws.{read-sizes}
 use borrow.Author.Needs.{needs}
+use Rattle.calls.specs.Calls.{GridRead}
+use Rattle.calls.proofs.CallLaws.{same-line}
 use Rattle.calls.proofs.call.take_grid_read.Statement.{statement}
 use Rattle.calls.proofs.call.take_grid_read.Tie as tie
 
@@ -16,18 +16,18 @@ take-grid-read-spec =
     (λ c. search needs)
     -- load-words-requires-2
     (λ c κs. search needs)
-    -- number-at-requires
+    -- call-number-requires
     (λ c κs. search needs)
-    -- number-at-requires-2
+    -- call-number-requires-2
     (λ c κs. search needs)
-    -- number-at-requires-3
-    (λ c κs. search needs)
-    -- elements-requires
+    -- call-number-requires-3
     (λ c κs. search needs)
     -- array-share-prefix-cells
     (λ c. search needs)
     -- slice-aggregate-answer-grid-read
     (λ c. search needs)
+    -- elements-requires
+    (λ c κs. search needs)
     -- array-borrow-prefix-shown
     (λ c. search needs)
     -- slice-aggregate-answer-grid-read-2
@@ -37,6 +37,4 @@ take-grid-read-spec =
     -- same-length
     (λ c. search needs)
     -- returns
-    (λ c.
-    let i = c .before .before .before .before .before .before .before .before .before .before .before .before .load-words2 in
-    read-sizes 16 (sym (i .ensures .1 .0 .1) ∙ i .ensures .0) (c .before .before .before .answer-grid-read .ensures)))
+    (λ c. same-line (c .before .before .before .answer-grid-read .ensures) (λ i. GridRead (c .before .before .before .before .before .before .before .before .before .before .call-number .ensures i) (c .before .before .before .before .before .before .before .before .before .call-number2 .ensures i) (c .before .before .before .before .before .before .before .before .call-number3 .ensures i) (c .before .before .before .before .before .before .before .before .before .before .before .before .before .before .before .load-words .ensures .holds i) (c .before .before .before .before .before .before .elements .ensures i) (c .before .before .before .before .before .before .before .before .before .before .before .before .load-words2 .ensures .holds i))))

@@ -1,7 +1,7 @@
-use mathlib.Core.Path.{sym, _∙_}
-use native.Mathlib.Omega.{arith}
-use Rattle.calls.proofs.CallLaws.{write-sizes}
 use borrow.Author.Needs.{needs}
+use Rattle.calls.specs.Calls.{GridWrite}
+use Rattle.calls.proofs.FormatLaws.{loaded-few}
+use Rattle.calls.proofs.CallLaws.{same-line}
 use Rattle.calls.proofs.call.take_grid_write.Statement.{statement}
 use Rattle.calls.proofs.call.take_grid_write.Tie as tie
 
@@ -29,14 +29,12 @@ take-grid-write-spec =
     (λ c. search needs)
     -- load-bytes-requires
     (λ c κs. search needs)
-    -- number-at-requires
+    -- call-number-requires
     (λ c κs. search needs)
-    -- number-at-requires-2
+    -- call-number-requires-2
     (λ c κs. search needs)
-    -- number-at-requires-3
-    (λ c κs.
-    let w = c .before .before .before .before .before .before .before .before .before .before .before .before .before .before .before .before .before .before .before .pre .0 in
-    (omega arith, omega (arith, w .numbers, w .data-stands .size, w .data-stands .within)))
+    -- call-number-requires-3
+    (λ c κs. search needs)
     -- array-share-prefix-wanted
     (λ c. search needs)
     -- slice-aggregate-answer-grid-write
@@ -59,14 +57,9 @@ take-grid-write-spec =
     (λ c. search needs)
     -- answer-grid-write-requires
     (λ c κs.
-    let w = c .before .before .before .before .before .before .before .before .before .before .before .before .before .before .before .before .before .before .before .before .before .before .before .before .before .before .pre in
-    let i = c .before .before .before .before .before .before .before .before .before .before .before .before .before .load-words4 in
-    let j = c .before .before .before .before .before .before .before .before .before .before .load-bytes in
-    (omega (arith, w .0 .cells-stand .few, i .ensures .0, i .ensures .1 .0 .1), (omega (arith, w .0 .others-stand .few, j .ensures .0, j .ensures .1 .0 .1), w .1)))
+    let p = c .before .before .before .before .before .before .before .before .before .before .before .before .before .before .before .before .before .before .before .before .before .before .before .before .before .before .pre in
+    (loaded-few (p .0 .cells-stand) (c .before .before .before .before .before .before .before .before .before .before .before .before .before .load-words4 .ensures), (loaded-few (p .0 .others-stand) (c .before .before .before .before .before .before .before .before .before .before .load-bytes .ensures), p .1)))
     -- same-length
     (λ c. search needs)
     -- returns
-    (λ c.
-    let i = c .before .before .before .before .before .before .before .before .before .before .before .before .before .before .before .before .before .before .load-words4 in
-    let j = c .before .before .before .before .before .before .before .before .before .before .before .before .before .before .before .load-bytes in
-    write-sizes 16 (sym (i .ensures .1 .0 .1) ∙ i .ensures .0) (sym (j .ensures .1 .0 .1) ∙ j .ensures .0) (c .before .before .before .before .answer-grid-write .ensures)))
+    (λ c. same-line (c .before .before .before .before .answer-grid-write .ensures) (λ i. GridWrite (c .before .before .before .before .before .before .before .before .before .before .before .before .before .call-number .ensures i) (c .before .before .before .before .before .before .before .before .before .before .before .before .call-number2 .ensures i) (c .before .before .before .before .before .before .before .before .before .before .before .call-number3 .ensures i) (c .before .before .before .before .before .before .before .before .before .before .before .before .before .before .before .before .before .before .before .before .before .before .before .before .before .before .before .load-words .ensures .holds i) (c .before .before .before .before .before .before .before .before .before .before .before .before .before .before .before .before .before .before .before .before .before .before .before .before .load-words2 .ensures .holds i) (c .before .before .before .before .before .before .before .before .before .before .before .before .before .before .before .before .before .before .before .before .before .load-words3 .ensures .holds i) (c .before .before .before .before .before .before .before .before .before .before .before .before .before .before .before .before .before .before .load-words4 .ensures .holds i) (c .before .before .before .before .before .before .before .before .before .before .before .before .before .before .before .load-bytes .ensures .holds i))))

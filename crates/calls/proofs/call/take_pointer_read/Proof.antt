@@ -1,6 +1,6 @@
-use mathlib.Core.Path.{sym, _∙_}
-use Rattle.calls.proofs.CallLaws.{read-sizes}
 use borrow.Author.Needs.{needs}
+use Rattle.calls.specs.Calls.{PointerRead}
+use Rattle.calls.proofs.CallLaws.{same-line}
 use Rattle.calls.proofs.call.take_pointer_read.Statement.{statement}
 use Rattle.calls.proofs.call.take_pointer_read.Tie as tie
 
@@ -12,7 +12,7 @@ take-pointer-read-spec =
     (λ c. search needs)
     -- load-bytes-requires
     (λ c κs. search needs)
-    -- number-at-requires
+    -- call-number-requires
     (λ c κs. search needs)
     -- elements-requires
     (λ c κs. search needs)
@@ -27,6 +27,4 @@ take-pointer-read-spec =
     -- same-length
     (λ c. search needs)
     -- returns
-    (λ c.
-    let i = c .before .before .before .before .before .before .before .before .before .before .load-bytes in
-    read-sizes 2 (sym (i .ensures .1 .0 .1) ∙ i .ensures .0) (c .before .before .before .answer-pointer-read .ensures)))
+    (λ c. same-line (c .before .before .before .answer-pointer-read .ensures) (λ i. PointerRead (c .before .before .before .before .before .before .before .before .call-number .ensures i) (c .before .before .before .before .before .before .before .elements .ensures i) (c .before .before .before .before .before .before .elements2 .ensures i) (c .before .before .before .before .before .before .before .before .before .before .load-bytes .ensures .holds i))))

@@ -1,6 +1,6 @@
-use mathlib.Core.Path.{sym, _∙_}
-use Rattle.calls.proofs.CallLaws.{write-sizes}
 use borrow.Author.Needs.{needs}
+use Rattle.calls.specs.Calls.{PointerWrite}
+use Rattle.calls.proofs.CallLaws.{same-line}
 use Rattle.calls.proofs.call.take_pointer_write.Statement.{statement}
 use Rattle.calls.proofs.call.take_pointer_write.Tie as tie
 
@@ -16,7 +16,7 @@ take-pointer-write-spec =
     (λ c. search needs)
     -- load-bytes-requires-2
     (λ c κs. search needs)
-    -- number-at-requires
+    -- call-number-requires
     (λ c κs. search needs)
     -- elements-requires
     (λ c κs. search needs)
@@ -37,7 +37,4 @@ take-pointer-write-spec =
     -- same-length
     (λ c. search needs)
     -- returns
-    (λ c.
-    let i = c .before .before .before .before .before .before .before .before .before .before .before .before .before .before .before .before .load-bytes in
-    let j = c .before .before .before .before .before .before .before .before .before .before .before .before .before .load-bytes2 in
-    write-sizes 2 (sym (i .ensures .1 .0 .1) ∙ i .ensures .0) (sym (j .ensures .1 .0 .1) ∙ j .ensures .0) (c .before .before .before .before .answer-pointer-write .ensures)))
+    (λ c. same-line (c .before .before .before .before .answer-pointer-write .ensures) (λ i. PointerWrite (c .before .before .before .before .before .before .before .before .before .before .before .call-number .ensures i) (c .before .before .before .before .before .before .before .before .before .before .elements .ensures i) (c .before .before .before .before .before .before .before .before .before .elements2 .ensures i) (c .before .before .before .before .before .before .before .before .elements3 .ensures i) (c .before .before .before .before .before .before .before .before .before .before .before .before .before .before .before .before .load-bytes .ensures .holds i) (c .before .before .before .before .before .before .before .before .before .before .before .before .before .load-bytes2 .ensures .holds i))))
