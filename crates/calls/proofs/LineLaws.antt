@@ -1,4 +1,4 @@
--- Laws of a call's line: bytes that follow the call change nothing of it. Assumes nothing.
+-- Laws of a call's line: bytes that follow the call change nothing of it, and no second text is it. Assumes nothing.
 use mathlib.Core.Path.{_≡_, refl, sym, ap, subst, transport, _∙_}
 use mathlib.Core.List.{List, [], _∷_, _++_}
 use Prim.Native.Nat.{ℕ, suc, _+_, _*_, _≤_, _<_}
@@ -7,10 +7,13 @@ use native.Mathlib.Omega.{arith}
 use lib.ListN.{length, getD, List·getD-append}
 use Rattle.bits.specs.Bits.{list}
 use Rattle.bits.proofs.BoundLaws.{list-ext}
+use Rattle.pointercalls.proofs.Unique as pointer
+use Rattle.gridcalls.proofs.OneAnswer as grid
 use Rattle.calls.specs.declared.input.WritePlaces.{WritePlaces}
 use Rattle.calls.specs.declared.input.ReadPlaces.{ReadPlaces}
 use Rattle.calls.specs.Format.{numberAt, callNumber, many, Stands, elements, callEnd}
-use Rattle.calls.specs.Calls.{writePlaces, readPlaces, WriteStands, ReadStands, PointerWrite, PointerRead, GridWrite, GridRead, PointerWriteAt, PointerReadAt, GridWriteAt, GridReadAt, LineOf, pointerWrite, pointerRead, gridWrite, gridRead}
+use Rattle.calls.specs.Text.{writeLine, readLine}
+use Rattle.calls.specs.Calls.{writePlaces, readPlaces, WriteStands, ReadStands, WriteLine, ReadLine, PointerWrite, PointerRead, GridWrite, GridRead, PointerWriteAt, PointerReadAt, GridWriteAt, GridReadAt, LineOf, pointerWrite, pointerRead, gridWrite, gridRead, OneLine}
 use Rattle.calls.proofs.CallLaws.{write-whole, read-whole, call-1, call-2, call-3, call-4}
 use Rattle.calls.proofs.StreamLaws.{most, number-more, more}
 
@@ -96,3 +99,24 @@ module _ (bs rest : List ℕ) where
 
     pub line-more : 16931 ≤ length bs → (callEnd bs ≡ 0 → ⊥) → LineOf bs text (getD bs 0 0) → LineOf (bs ++ rest) text (getD (bs ++ rest) 0 0)
     line-more h z l = subst (LineOf (bs ++ rest) text) (sym (List·getD-append bs rest 0 0 (omega arith))) (by-tag (getD bs 0 0) h z refl l)
+
+-- ---- no second line
+
+module _ {Promised : ℕ → ℕ → ℕ → List ℕ → List ℕ → Type 0} {digits : ℕ} {cells others text text′ : List ℕ} where
+  same-write : (l : WriteLine digits cells others Promised text) (m : WriteLine digits cells others Promised text′) → l .number ≡ m .number → l .first ≡ m .first
+      → l .second ≡ m .second → l .cells′ ≡ m .cells′ → l .others′ ≡ m .others′ → text ≡ text′
+  same-write l m a b c d e = l .shows ∙ (λ i. writeLine (a i) (b i) (c i) digits (d i) (e i)) ∙ sym (m .shows)
+
+module _ {Promised : ℕ → List ℕ → Type 0} {digits : ℕ} {out text text′ : List ℕ} where
+  same-read : (l : ReadLine digits out Promised text) (m : ReadLine digits out Promised text′) → l .number ≡ m .number → l .out′ ≡ m .out′ → text ≡ text′
+  same-read l m a b = l .shows ∙ (λ i. readLine (a i) digits (b i)) ∙ sym (m .shows)
+
+pub one-line : OneLine
+one-line bs text text′ tag (pointerWrite l) (pointerWrite m) =
+    let (a, c, d) = pointer.write-unique _ _ _ _ _ _ _ _ _ _ _ _ (l .promised) (m .promised) in same-write l m (λ i. a i .number) (λ i. a i .active) (λ i. a i .new) c d
+one-line bs text text′ tag (pointerRead l) (pointerRead m) =
+    let (a, o) = pointer.read-unique _ _ _ _ _ _ _ _ (l .promised) (m .promised) in same-read l m (λ i. a i .number) o
+one-line bs text text′ tag (gridWrite l) (gridWrite m) =
+    let (a, c, d) = grid.one-write _ _ _ _ _ _ _ _ _ _ (l .promised) (m .promised) in same-write l m (λ i. a i .number) (λ i. a i .levels) (λ i. a i .faults) c d
+one-line bs text text′ tag (gridRead l) (gridRead m) =
+    let (a, o) = grid.one-read _ _ _ _ _ _ _ _ _ _ (l .promised) (m .promised) in same-read l m (λ i. a i .number) o

@@ -120,6 +120,10 @@ pub data LineOf (bs text : List ℕ) : ℕ → Type 0 where
   gridWrite : GridWriteAt bs (writePlaces bs 3 8) text → LineOf bs text 3
   gridRead : GridReadAt bs (readPlaces bs 3 8) text → LineOf bs text 4
 
+-- and no second text is (proofs/LineLaws.antt)
+abbrev pub OneLine : Type 0
+OneLine = (bs text text′ : List ℕ) (tag : ℕ) → LineOf bs text tag → LineOf bs text′ tag → text ≡ text′
+
 -- ---- what is done
 
 -- a line was put
