@@ -9,7 +9,7 @@ use Rattle.calls.specs.declared.input.WritePlaces.{WritePlaces}
 use Rattle.calls.specs.declared.input.ReadPlaces.{ReadPlaces}
 use Rattle.calls.specs.Format.{afterNumbers, afterBuffer, afterBuffers, afterCall, callEnd}
 use Rattle.calls.specs.Text.{decimal, bufferText, writeLine, readLine, Put}
-use Rattle.calls.specs.Calls.{writePlaces, readPlaces, WriteStands, ReadStands, WriteLine, ReadLine, LineOf, PutLine, Called, Printed}
+use Rattle.calls.specs.Calls.{writePlaces, readPlaces, WriteStands, ReadStands, WriteLine, ReadLine, LineBy, PutLine, Called, Printed}
 use Rattle.calls.proofs.FormatLaws.{stands, numbers-stand}
 use Rattle.calls.proofs.TextLaws.{length-decimals, length-text, length-write, length-read}
 
@@ -153,9 +153,9 @@ unfolding callEnd
 call-0 bs a b c d = rw (ne-eqb (getD bs 0 0) 1 a, ne-eqb (getD bs 0 0) 2 b, ne-eqb (getD bs 0 0) 3 c, ne-eqb (getD bs 0 0) 4 d)
 
 pub printed : {bs : List ℕ} {Line : List ℕ → Type 0} {end taken tag : ℕ} {before after : List ℕ} {p q : ℕ} → getD bs 0 0 ≡ tag → end ≡ callEnd bs
-    → ((text : List ℕ) → Line text → LineOf bs text tag) → Called end Line taken before p after q → Printed bs taken before p after q
+    → ((text : List ℕ) → Line text → LineBy bs text tag) → Called end Line taken before p after q → Printed bs taken before p after q
 printed {bs} t e f h = record {
   takes = h .takes ∙ e;
   none = h .none;
-  made = λ z. let l = h .made z in record { text = l .text; line = subst (LineOf bs (l .text)) (sym t) (f (l .text) (l .line)); short = l .short; put = l .put };
+  made = λ z. let l = h .made z in record { text = l .text; line = subst (LineBy bs (l .text)) (sym t) (f (l .text) (l .line)); short = l .short; put = l .put };
 }

@@ -13,7 +13,7 @@ use Rattle.calls.specs.declared.input.WritePlaces.{WritePlaces}
 use Rattle.calls.specs.declared.input.ReadPlaces.{ReadPlaces}
 use Rattle.calls.specs.Format.{numberAt, callNumber, many, Stands, elements, callEnd}
 use Rattle.calls.specs.Text.{writeLine, readLine}
-use Rattle.calls.specs.Calls.{writePlaces, readPlaces, WriteStands, ReadStands, WriteLine, ReadLine, PointerWrite, PointerRead, GridWrite, GridRead, PointerWriteAt, PointerReadAt, GridWriteAt, GridReadAt, LineOf, pointerWrite, pointerRead, gridWrite, gridRead, OneLine}
+use Rattle.calls.specs.Calls.{writePlaces, readPlaces, WriteStands, ReadStands, WriteLine, ReadLine, PointerWrite, PointerRead, GridWrite, GridRead, PointerWriteAt, PointerReadAt, GridWriteAt, GridReadAt, LineBy, LineOf, pointerWrite, pointerRead, gridWrite, gridRead, OneLine}
 use Rattle.calls.proofs.CallLaws.{write-whole, read-whole, call-1, call-2, call-3, call-4}
 use Rattle.calls.proofs.StreamLaws.{most, number-more, more}
 
@@ -87,18 +87,15 @@ module _ (bs rest : List ℕ) where
         (elements-more (p .cells) 8 (s .cells-stand) i) (elements-more (p .others) 1 (s .others-stand) i) (elements-more (p .shown) 8 (s .shown-stands) i) text)
         l
 
-    by-tag : (tag : ℕ) → 16931 ≤ length bs → (callEnd bs ≡ 0 → ⊥) → getD bs 0 0 ≡ tag → LineOf bs text tag → LineOf (bs ++ rest) text tag
+    by-tag : (tag : ℕ) → 16931 ≤ length bs → (callEnd bs ≡ 0 → ⊥) → getD bs 0 0 ≡ tag → LineBy bs text tag → LineBy (bs ++ rest) text tag
     by-tag tag h z e (pointerWrite l) =
-        pointerWrite (subst (λ p. PointerWriteAt (bs ++ rest) p text) (sym (write-places-more 1 1 (omega arith))) (pointer-write-more _ (write-whole bs 1 1 _ refl (λ y. z (sym (call-1 bs e) ∙ y))) l))
-    by-tag tag h z e (pointerRead l) =
-        pointerRead (subst (λ p. PointerReadAt (bs ++ rest) p text) (sym (read-places-more 1 1 (omega arith))) (pointer-read-more _ (read-whole bs 1 1 _ refl (λ y. z (sym (call-2 bs e) ∙ y))) l))
-    by-tag tag h z e (gridWrite l) =
-        gridWrite (subst (λ p. GridWriteAt (bs ++ rest) p text) (sym (write-places-more 3 8 (omega arith))) (grid-write-more _ (write-whole bs 3 8 _ refl (λ y. z (sym (call-3 bs e) ∙ y))) l))
-    by-tag tag h z e (gridRead l) =
-        gridRead (subst (λ p. GridReadAt (bs ++ rest) p text) (sym (read-places-more 3 8 (omega arith))) (grid-read-more _ (read-whole bs 3 8 _ refl (λ y. z (sym (call-4 bs e) ∙ y))) l))
+        pointerWrite (rw (write-places-more 1 1 (omega arith)) (pointer-write-more _ (write-whole bs 1 1 _ refl (λ y. z (sym (call-1 bs e) ∙ y))) l))
+    by-tag tag h z e (pointerRead l) = pointerRead (rw (read-places-more 1 1 (omega arith)) (pointer-read-more _ (read-whole bs 1 1 _ refl (λ y. z (sym (call-2 bs e) ∙ y))) l))
+    by-tag tag h z e (gridWrite l) = gridWrite (rw (write-places-more 3 8 (omega arith)) (grid-write-more _ (write-whole bs 3 8 _ refl (λ y. z (sym (call-3 bs e) ∙ y))) l))
+    by-tag tag h z e (gridRead l) = gridRead (rw (read-places-more 3 8 (omega arith)) (grid-read-more _ (read-whole bs 3 8 _ refl (λ y. z (sym (call-4 bs e) ∙ y))) l))
 
-    pub line-more : 16931 ≤ length bs → (callEnd bs ≡ 0 → ⊥) → LineOf bs text (getD bs 0 0) → LineOf (bs ++ rest) text (getD (bs ++ rest) 0 0)
-    line-more h z l = subst (LineOf (bs ++ rest) text) (sym (List·getD-append bs rest 0 0 (omega arith))) (by-tag (getD bs 0 0) h z refl l)
+    pub line-more : 16931 ≤ length bs → (callEnd bs ≡ 0 → ⊥) → LineOf bs text → LineOf (bs ++ rest) text
+    line-more h z l = subst (LineBy (bs ++ rest) text) (sym (List·getD-append bs rest 0 0 (omega arith))) (by-tag (getD bs 0 0) h z refl l)
 
 -- ---- no second line
 
@@ -111,12 +108,15 @@ module _ {Promised : ℕ → List ℕ → Type 0} {digits : ℕ} {out text text�
   same-read : (l : ReadLine digits out Promised text) (m : ReadLine digits out Promised text′) → l .number ≡ m .number → l .out′ ≡ m .out′ → text ≡ text′
   same-read l m a b = l .shows ∙ (λ i. readLine (a i) digits (b i)) ∙ sym (m .shows)
 
-pub one-line : OneLine
-one-line bs text text′ tag (pointerWrite l) (pointerWrite m) =
+one-by-tag : (bs text text′ : List ℕ) (tag : ℕ) → LineBy bs text tag → LineBy bs text′ tag → text ≡ text′
+one-by-tag bs text text′ tag (pointerWrite l) (pointerWrite m) =
     let (a, c, d) = pointer.write-unique _ _ _ _ _ _ _ _ _ _ _ _ (l .promised) (m .promised) in same-write l m (λ i. a i .number) (λ i. a i .active) (λ i. a i .new) c d
-one-line bs text text′ tag (pointerRead l) (pointerRead m) =
+one-by-tag bs text text′ tag (pointerRead l) (pointerRead m) =
     let (a, o) = pointer.read-unique _ _ _ _ _ _ _ _ (l .promised) (m .promised) in same-read l m (λ i. a i .number) o
-one-line bs text text′ tag (gridWrite l) (gridWrite m) =
+one-by-tag bs text text′ tag (gridWrite l) (gridWrite m) =
     let (a, c, d) = grid.one-write _ _ _ _ _ _ _ _ _ _ (l .promised) (m .promised) in same-write l m (λ i. a i .number) (λ i. a i .levels) (λ i. a i .faults) c d
-one-line bs text text′ tag (gridRead l) (gridRead m) =
+one-by-tag bs text text′ tag (gridRead l) (gridRead m) =
     let (a, o) = grid.one-read _ _ _ _ _ _ _ _ _ _ (l .promised) (m .promised) in same-read l m (λ i. a i .number) o
+
+pub one-line : OneLine
+one-line bs text text′ l m = one-by-tag bs text text′ (getD bs 0 0) l m

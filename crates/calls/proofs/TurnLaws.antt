@@ -75,9 +75,9 @@ judged bs rest true h k = call-more bs rest (h refl)
 judged bs rest false h k = ap (λ l. callEnd (bs ++ l)) (k refl) ∙ ap callEnd (append-nil bs)
 
 judged-line : (bs rest text : List ℕ) (more : Bool) → (more ≡ true → 16931 ≤ length bs) → (more ≡ false → rest ≡ []) → (callEnd bs ≡ 0 → ⊥)
-    → LineOf bs text (getD bs 0 0) → LineOf (bs ++ rest) text (getD (bs ++ rest) 0 0)
+    → LineOf bs text → LineOf (bs ++ rest) text
 judged-line bs rest text true h k z l = line-more bs rest text (h refl) z l
-judged-line bs rest text false h k z l = subst (λ b. LineOf b text (getD b 0 0)) (sym (ap (λ l. bs ++ l) (k refl) ∙ append-nil bs)) l
+judged-line bs rest text false h k z l = subst (λ b. LineOf b text) (sym (ap (λ l. bs ++ l) (k refl) ∙ append-nil bs)) l
 
 module _ (s : State) (input before middle : List ℕ) (taken q : ℕ) (ended : s .end ≤ length input) (whole : s .more ≡ true → 16931 ≤ s .end - s .at)
     (h : Printed (left input (s .at) (s .end)) taken before (s .put) middle q) where
@@ -88,8 +88,7 @@ module _ (s : State) (input before middle : List ℕ) (taken q : ℕ) (ended : s
   used rest k = ap (λ n. s .at + n) (h .takes ∙ sym (judged (left input (s .at) (s .end)) rest (s .more) there k))
 
   shown : {text : List ℕ} (rest : List ℕ) → (s .more ≡ false → rest ≡ []) → (callEnd (left input (s .at) (s .end)) ≡ 0 → ⊥)
-      → LineOf (left input (s .at) (s .end)) text (getD (left input (s .at) (s .end)) 0 0)
-      → LineOf (left input (s .at) (s .end) ++ rest) text (getD (left input (s .at) (s .end) ++ rest) 0 0)
+      → LineOf (left input (s .at) (s .end)) text → LineOf (left input (s .at) (s .end) ++ rest) text
   shown {text} rest k z l = judged-line (left input (s .at) (s .end)) rest text (s .more) there k z l
 
   pub turned-none : {after : List ℕ} {r : ℕ} → s .at ≤ s .end → taken ≡ 0 → Put badCall middle q after r

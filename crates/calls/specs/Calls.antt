@@ -113,16 +113,20 @@ module _ (bs : List ℕ) where
   GridReadAt p =
       GridRead (callNumber bs 0) (callNumber bs 1) (callNumber bs 2) (elements bs (p .cells) 8) (elements bs (p .others) 1) (elements bs (p .shown) 8)
 
--- the text is the line of the call that stands at the front of the bytes, by its tag
-pub data LineOf (bs text : List ℕ) : ℕ → Type 0 where
-  pointerWrite : PointerWriteAt bs (writePlaces bs 1 1) text → LineOf bs text 1
-  pointerRead : PointerReadAt bs (readPlaces bs 1 1) text → LineOf bs text 2
-  gridWrite : GridWriteAt bs (writePlaces bs 3 8) text → LineOf bs text 3
-  gridRead : GridReadAt bs (readPlaces bs 3 8) text → LineOf bs text 4
+-- by the tag
+pub data LineBy (bs text : List ℕ) : ℕ → Type 0 where
+  pointerWrite : PointerWriteAt bs (writePlaces bs 1 1) text → LineBy bs text 1
+  pointerRead : PointerReadAt bs (readPlaces bs 1 1) text → LineBy bs text 2
+  gridWrite : GridWriteAt bs (writePlaces bs 3 8) text → LineBy bs text 3
+  gridRead : GridReadAt bs (readPlaces bs 3 8) text → LineBy bs text 4
+
+-- the text is the line of the call that stands at the front of the bytes
+abbrev pub LineOf : List ℕ → List ℕ → Type 0
+LineOf bs text = LineBy bs text (getD bs 0 0)
 
 -- and no second text is (proofs/LineLaws.antt)
 abbrev pub OneLine : Type 0
-OneLine = (bs text text′ : List ℕ) (tag : ℕ) → LineOf bs text tag → LineOf bs text′ tag → text ≡ text′
+OneLine = (bs text text′ : List ℕ) → LineOf bs text → LineOf bs text′ → text ≡ text′
 
 -- ---- what is done
 
@@ -141,4 +145,4 @@ pub record Called (end : ℕ) (Line : List ℕ → Type 0) (taken : ℕ) (before
 
 -- the call at the front of the bytes, whichever it is
 abbrev pub Printed : List ℕ → ℕ → List ℕ → ℕ → List ℕ → ℕ → Type 0
-Printed bs = Called (callEnd bs) (λ text. LineOf bs text (getD bs 0 0))
+Printed bs = Called (callEnd bs) (LineOf bs)

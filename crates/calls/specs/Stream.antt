@@ -4,7 +4,7 @@ use mathlib.Core.Path.{_≡_}
 use mathlib.Core.Bool.{true, false}
 use mathlib.Core.List.{List, [], _++_}
 use Prim.Native.Nat.{ℕ, _+_, _-_, _≤_}
-use lib.ListN.{length, getD, take, drop}
+use lib.ListN.{length, take, drop}
 use Rattle.calls.specs.declared.State.{State}
 use Rattle.calls.specs.Format.{callEnd}
 use Rattle.calls.specs.Text.{badCall, Put}
@@ -39,7 +39,6 @@ pub record Turned (s : State) (input before : List ℕ) (r : State) (after : Lis
   pub stops : r .at ≡ s .at → r .going ≡ false
   pub text : List ℕ
   pub short : length text ≤ 9281
-  pub line : (r .at ≡ s .at → ⊥) → (rest : List ℕ) → (s .more ≡ false → rest ≡ [])
-      → LineOf (left input (s .at) (s .end) ++ rest) text (getD (left input (s .at) (s .end) ++ rest) 0 0)
+  pub line : (r .at ≡ s .at → ⊥) → (rest : List ℕ) → (s .more ≡ false → rest ≡ []) → LineOf (left input (s .at) (s .end) ++ rest) text
   pub bad : r .at ≡ s .at → text ≡ badCall
   pub put : Put text before (s .put) after (r .put)

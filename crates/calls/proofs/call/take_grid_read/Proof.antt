@@ -36,8 +36,19 @@ take-grid-read-spec =
     -- slice-aggregate-answer-grid-read-2
     (λ c. c .before .before .before .before .before .before .before .load-words2 .ensures .fits .1)
     -- answer-grid-read-requires
-    (λ c κs. let p = c .before .before .before .before .before .before .before .before .before .before .before .before .before .before .before .pre in (loaded-few (p .0 .shown-stands) (c .before .before .before .before .before .before .before .before .load-words2 .ensures), p .1))
+    (λ c κs.
+    let p = c .before .before .before .before .before .before .before .before .before .before .before .before .before .before .before .pre in
+    (loaded-few (p .0 .shown-stands) (c .before .before .before .before .before .before .before .before .load-words2 .ensures), p .1))
     -- same-length
     (λ c. c .before .before .before .answer-grid-read .kept .1 .1 .1 .1 .1 .1 .0)
     -- returns
-    (λ c. same-line (c .before .before .before .answer-grid-read .ensures) (λ i. GridRead (c .before .before .before .before .before .before .before .before .before .before .call-number .ensures i) (c .before .before .before .before .before .before .before .before .before .call-number2 .ensures i) (c .before .before .before .before .before .before .before .before .call-number3 .ensures i) (c .before .before .before .before .before .before .before .before .before .before .before .before .before .before .before .load-words .ensures .holds i) (c .before .before .before .before .before .before .elements .ensures i) (c .before .before .before .before .before .before .before .before .before .before .before .before .load-words2 .ensures .holds i))))
+    (λ c.
+    same-line (c .before .before .before .answer-grid-read .ensures)
+    (λ i.
+    GridRead
+    (c .before .before .before .before .before .before .before .before .before .before .call-number .ensures i)
+    (c .before .before .before .before .before .before .before .before .before .call-number2 .ensures i)
+    (c .before .before .before .before .before .before .before .before .call-number3 .ensures i)
+    (c .before .before .before .before .before .before .before .before .before .before .before .before .before .before .before .load-words .ensures .holds i)
+    (c .before .before .before .before .before .before .elements .ensures i)
+    (c .before .before .before .before .before .before .before .before .before .before .before .before .load-words2 .ensures .holds i))))

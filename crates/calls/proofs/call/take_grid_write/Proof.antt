@@ -58,8 +58,21 @@ take-grid-write-spec =
     -- slice-aggregate-answer-grid-write-5
     (λ c. c .before .before .before .before .before .before .before .before .before .load-bytes .ensures .fits .1)
     -- answer-grid-write-requires
-    (λ c κs. let p = c .before .before .before .before .before .before .before .before .before .before .before .before .before .before .before .before .before .before .before .before .before .before .before .before .before .before .pre in (loaded-few (p .0 .cells-stand) (c .before .before .before .before .before .before .before .before .before .before .before .before .before .load-words4 .ensures), (loaded-few (p .0 .others-stand) (c .before .before .before .before .before .before .before .before .before .before .load-bytes .ensures), p .1)))
+    (λ c κs.
+    let p = c .before .before .before .before .before .before .before .before .before .before .before .before .before .before .before .before .before .before .before .before .before .before .before .before .before .before .pre in
+    (loaded-few (p .0 .cells-stand) (c .before .before .before .before .before .before .before .before .before .before .before .before .before .load-words4 .ensures), (loaded-few (p .0 .others-stand) (c .before .before .before .before .before .before .before .before .before .before .load-bytes .ensures), p .1)))
     -- same-length
     (λ c. c .before .before .before .before .answer-grid-write .kept .1 .1 .1 .1 .1 .1 .1 .1 .0)
     -- returns
-    (λ c. same-line (c .before .before .before .before .answer-grid-write .ensures) (λ i. GridWrite (c .before .before .before .before .before .before .before .before .before .before .before .before .before .call-number .ensures i) (c .before .before .before .before .before .before .before .before .before .before .before .before .call-number2 .ensures i) (c .before .before .before .before .before .before .before .before .before .before .before .call-number3 .ensures i) (c .before .before .before .before .before .before .before .before .before .before .before .before .before .before .before .before .before .before .before .before .before .before .before .before .before .before .before .load-words .ensures .holds i) (c .before .before .before .before .before .before .before .before .before .before .before .before .before .before .before .before .before .before .before .before .before .before .before .before .load-words2 .ensures .holds i) (c .before .before .before .before .before .before .before .before .before .before .before .before .before .before .before .before .before .before .before .before .before .load-words3 .ensures .holds i) (c .before .before .before .before .before .before .before .before .before .before .before .before .before .before .before .before .before .before .load-words4 .ensures .holds i) (c .before .before .before .before .before .before .before .before .before .before .before .before .before .before .before .load-bytes .ensures .holds i))))
+    (λ c.
+    same-line (c .before .before .before .before .answer-grid-write .ensures)
+    (λ i.
+    GridWrite
+    (c .before .before .before .before .before .before .before .before .before .before .before .before .before .call-number .ensures i)
+    (c .before .before .before .before .before .before .before .before .before .before .before .before .call-number2 .ensures i)
+    (c .before .before .before .before .before .before .before .before .before .before .before .call-number3 .ensures i)
+    (c .before .before .before .before .before .before .before .before .before .before .before .before .before .before .before .before .before .before .before .before .before .before .before .before .before .before .before .load-words .ensures .holds i)
+    (c .before .before .before .before .before .before .before .before .before .before .before .before .before .before .before .before .before .before .before .before .before .before .before .before .load-words2 .ensures .holds i)
+    (c .before .before .before .before .before .before .before .before .before .before .before .before .before .before .before .before .before .before .before .before .before .load-words3 .ensures .holds i)
+    (c .before .before .before .before .before .before .before .before .before .before .before .before .before .before .before .before .before .before .load-words4 .ensures .holds i)
+    (c .before .before .before .before .before .before .before .before .before .before .before .before .before .before .before .load-bytes .ensures .holds i))))

@@ -25,8 +25,17 @@ take-pointer-read-spec =
     -- slice-aggregate-answer-pointer-read
     (λ c. c .before .before .before .before .before .load-bytes .ensures .fits .1)
     -- answer-pointer-read-requires
-    (λ c κs. let p = c .before .before .before .before .before .before .before .before .before .before .pre in (loaded-few (p .0 .shown-stands) (c .before .before .before .before .before .before .load-bytes .ensures), p .1))
+    (λ c κs.
+    let p = c .before .before .before .before .before .before .before .before .before .before .pre in
+    (loaded-few (p .0 .shown-stands) (c .before .before .before .before .before .before .load-bytes .ensures), p .1))
     -- same-length
     (λ c. c .before .before .before .answer-pointer-read .kept .1 .1 .1 .1 .0)
     -- returns
-    (λ c. same-line (c .before .before .before .answer-pointer-read .ensures) (λ i. PointerRead (c .before .before .before .before .before .before .before .before .call-number .ensures i) (c .before .before .before .before .before .before .before .elements .ensures i) (c .before .before .before .before .before .before .elements2 .ensures i) (c .before .before .before .before .before .before .before .before .before .before .load-bytes .ensures .holds i))))
+    (λ c.
+    same-line (c .before .before .before .answer-pointer-read .ensures)
+    (λ i.
+    PointerRead
+    (c .before .before .before .before .before .before .before .before .call-number .ensures i)
+    (c .before .before .before .before .before .before .before .elements .ensures i)
+    (c .before .before .before .before .before .before .elements2 .ensures i)
+    (c .before .before .before .before .before .before .before .before .before .before .load-bytes .ensures .holds i))))

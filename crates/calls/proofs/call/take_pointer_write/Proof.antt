@@ -35,8 +35,19 @@ take-pointer-write-spec =
     -- slice-aggregate-answer-pointer-write-2
     (λ c. c .before .before .before .before .before .before .before .load-bytes2 .ensures .fits .1)
     -- answer-pointer-write-requires
-    (λ c κs. let p = c .before .before .before .before .before .before .before .before .before .before .before .before .before .before .before .pre in (loaded-few (p .0 .cells-stand) (c .before .before .before .before .before .before .before .before .before .before .before .load-bytes .ensures), (loaded-few (p .0 .others-stand) (c .before .before .before .before .before .before .before .before .load-bytes2 .ensures), p .1)))
+    (λ c κs.
+    let p = c .before .before .before .before .before .before .before .before .before .before .before .before .before .before .before .pre in
+    (loaded-few (p .0 .cells-stand) (c .before .before .before .before .before .before .before .before .before .before .before .load-bytes .ensures), (loaded-few (p .0 .others-stand) (c .before .before .before .before .before .before .before .before .load-bytes2 .ensures), p .1)))
     -- same-length
     (λ c. c .before .before .before .before .answer-pointer-write .kept .1 .1 .1 .1 .1 .1 .0)
     -- returns
-    (λ c. same-line (c .before .before .before .before .answer-pointer-write .ensures) (λ i. PointerWrite (c .before .before .before .before .before .before .before .before .before .before .before .call-number .ensures i) (c .before .before .before .before .before .before .before .before .before .before .elements .ensures i) (c .before .before .before .before .before .before .before .before .before .elements2 .ensures i) (c .before .before .before .before .before .before .before .before .elements3 .ensures i) (c .before .before .before .before .before .before .before .before .before .before .before .before .before .before .before .before .load-bytes .ensures .holds i) (c .before .before .before .before .before .before .before .before .before .before .before .before .before .load-bytes2 .ensures .holds i))))
+    (λ c.
+    same-line (c .before .before .before .before .answer-pointer-write .ensures)
+    (λ i.
+    PointerWrite
+    (c .before .before .before .before .before .before .before .before .before .before .before .call-number .ensures i)
+    (c .before .before .before .before .before .before .before .before .before .before .elements .ensures i)
+    (c .before .before .before .before .before .before .before .before .before .elements2 .ensures i)
+    (c .before .before .before .before .before .before .before .before .elements3 .ensures i)
+    (c .before .before .before .before .before .before .before .before .before .before .before .before .before .before .before .before .load-bytes .ensures .holds i)
+    (c .before .before .before .before .before .before .before .before .before .before .before .before .before .load-bytes2 .ensures .holds i))))
