@@ -14,7 +14,7 @@ answer-grid-write-spec =
     let w = c .before .before .before .before .before .before .before .write in
     let a = c .before .before .before .before .before .before .before .before .before .before .before .before .before .before .before .before in
     let p = a .pre in
-    write-fits (a .args .put) (w .result .number) (w .result .levels) (w .result .faults) 16 _ _ (lit< tt) (lit≤ tt) (p .0) (p .1 .0) (w .kept .1 .1 .1 .1 .1 .1 .0) (w .kept .1 .1 .1 .1 .1 .1 .1 .0) (p .1 .1))
+    write-fits (a .args .put) _ _ _ 16 _ _ (lit< tt) (lit≤ tt) (p .0) (p .1 .0) (w .kept .1 .1 .1 .1 .1 .1 .0) (w .kept .1 .1 .1 .1 .1 .1 .1 .0) (p .1 .1))
     -- same-length
     (λ c. c .before .before .before .before .before .before .before .before .before .before .write .kept .1 .1 .1 .1 .1 .1 .0)
     -- same-length-2

@@ -14,7 +14,7 @@ answer-pointer-read-spec =
     let w = c .before .before .before .before .read in
     let a = c .before .before .before .before .before .before .before .before .before .before in
     let p = a .pre in
-    read-fits (a .args .put) (w .result .number) 2 _ (lit< tt) (lit≤ tt) (p .0) (w .kept .1 .1 .1 .0) (p .1))
+    read-fits (a .args .put) _ 2 _ (lit< tt) (lit≤ tt) (p .0) (w .kept .1 .1 .1 .0) (p .1))
     -- same-length
     (λ c. c .before .before .before .before .before .before .before .read .kept .1 .1 .1 .0)
     -- same-length-2

@@ -14,7 +14,7 @@ answer-pointer-write-spec =
     let w = c .before .before .before .before .before .before .before .write in
     let a = c .before .before .before .before .before .before .before .before .before .before .before .before .before .before .before .before in
     let p = a .pre in
-    write-fits (a .args .put) (w .result .number) (w .result .active) (w .result .new) 2 _ _ (lit< tt) (lit≤ tt) (p .0) (p .1 .0) (w .kept .1 .1 .1 .1 .0) (w .kept .1 .1 .1 .1 .1 .0) (p .1 .1))
+    write-fits (a .args .put) _ _ _ 2 _ _ (lit< tt) (lit≤ tt) (p .0) (p .1 .0) (w .kept .1 .1 .1 .1 .0) (w .kept .1 .1 .1 .1 .1 .0) (p .1 .1))
     -- same-length
     (λ c. c .before .before .before .before .before .before .before .before .before .before .write .kept .1 .1 .1 .1 .0)
     -- same-length-2
