@@ -10,7 +10,7 @@ use lib.Seq.{take-suc, take-suc-set, drop-set-lt, drop-drop, getD-drop}
 use lib.Dec.{ltb}
 use borrow.Author.Tests.{ltb-true, ltb-false}
 use borrow.Rule.Slice.PartMut.{putMid, midOf, mid-len, take-put, same-len-mid}
-use Rattle.bits.proofs.TestLaws.{and-right}
+use Rattle.bits.proofs.TestLaws.{and-right, false-when}
 use Rattle.calls.specs.declared.State.{State}
 use Rattle.calls.specs.Format.{callEnd}
 use Rattle.calls.specs.Text.{badCall, Put}
@@ -64,6 +64,10 @@ wanted r more n e h = ltb-true n 16931 (and-right more (ltb n 16931) (sym e ∙ 
 
 pub unwanted : (r more : Bool) (n : ℕ) → r ≡ more && ltb n 16931 → r ≡ false → more ≡ true → 16931 ≤ n
 unwanted r more n e h k = ltb-false n 16931 (ap (λ m. m && ltb n 16931) (sym k) ∙ sym e ∙ h)
+
+-- where none is wanted though none is left, the input has ended
+pub none-left : (r more : Bool) (p q : ℕ) → r ≡ more && ltb (q - p) 16931 → r ≡ false → p ≡ q → more ≡ false
+none-left r more p q e h z = false-when more (λ t. absurd (omega (arith, unwanted r more (q - p) e h t)))
 
 -- ---- a call, whatever follows
 

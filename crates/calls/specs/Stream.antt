@@ -42,3 +42,11 @@ pub record Turned (s : State) (input before : List ℕ) (r : State) (after : Lis
   pub line : (r .at ≡ s .at → ⊥) → (rest : List ℕ) → (s .more ≡ false → rest ≡ []) → LineOf (left input (s .at) (s .end) ++ rest) text
   pub bad : r .at ≡ s .at → text ≡ badCall
   pub put : Put text before (s .put) after (r .put)
+
+-- a turn reads, or finds that all the input was used, or writes what was put, or makes a call
+pub data Turn (s : State) (input output : List ℕ) (r : State) (input′ output′ : List ℕ) : Type 0 where
+  fetched : Fetched s input r input′ → output′ ≡ output → Turn s input output r input′ output′
+  done : s .more ≡ false → s .at ≡ s .end → r ≡ record { going = false; more = s .more; at = s .at; end = s .end; put = s .put } → input′ ≡ input → output′ ≡ output
+      → Turn s input output r input′ output′
+  written : r ≡ record { going = r .going; more = s .more; at = s .at; end = s .end; put = 0 } → input′ ≡ input → output′ ≡ output → Turn s input output r input′ output′
+  called : Turned s input output r output′ → input′ ≡ input → Turn s input output r input′ output′

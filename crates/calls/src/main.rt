@@ -8,7 +8,7 @@ ghost use mathlib.Core.Bool.{true, _&&_};
 ghost use Prim.Native.Nat.{_+_, _-_, _≤_, _<_};
 ghost use lib.Dec.{ltb};
 ghost use lib.ListN.{length, take};
-ghost use Rattle.calls.specs.Stream.{left, Ready, Fetched, Turned};
+ghost use Rattle.calls.specs.Stream.{left, Ready, Fetched, Turned, Turn};
 use libc::STDIN_FILENO;
 use libc::STDOUT_FILENO;
 
@@ -136,6 +136,7 @@ fn turn(input: &mut [u8], output: &mut [u8], s: State) -> State
     requires { ⌜ Ready (length (now input)) (length (now output)) s ⌝ }
     requires { ⌜ (16931 ≤ length (now input)) × (9281 ≤ length (now output)) ⌝ }
     ensures { λ r. ⌜ Ready (length (now (input .exit))) (length (now (output .exit))) r ⌝ }
+    ensures { λ r. ⌜ Turn s (now (input .entry)) (now (output .entry)) r (now (input .exit)) (now (output .exit)) ⌝ }
 {
     if wants_more(s.more, s.end - s.at) {
         return fetch(input, s);

@@ -1,6 +1,8 @@
 use Prim.Native.Nat.{_-_}
 use native.Mathlib.Omega.{arith}
-use Rattle.calls.proofs.TurnLaws.{wanted, unwanted}
+use mathlib.Core.Path.{refl}
+use Rattle.calls.specs.Stream.{fetched, done, written, called}
+use Rattle.calls.proofs.TurnLaws.{wanted, unwanted, none-left}
 use borrow.Author.Needs.{needs}
 use Rattle.calls.proofs.turn.Statement.{statement}
 use Rattle.calls.proofs.turn.Tie as tie
@@ -22,9 +24,9 @@ turn-spec =
     -- same-length
     (λ c. search needs)
     -- returns
-    (λ c. search needs)
+    (λ c. (search needs, fetched (c .before .before .fetch .ensures) refl))
     -- returns-2
-    (λ c. search needs)
+    (λ c. (search needs, done (none-left _ _ _ _ (c .before .before .before .wants-more .ensures) (c .before .before .if1 .left) (c .if2 .taken)) (c .if2 .taken) refl refl refl))
     -- sub-if3
     (λ c. search needs)
     -- flush-requires
@@ -32,7 +34,7 @@ turn-spec =
     -- same-length-2
     (λ c. search needs)
     -- returns-3
-    (λ c. search needs)
+    (λ c. (search needs, written refl refl refl))
     -- make-requires
     (λ c κs.
     let p = c .before .before .before .before .before .before .before .before .before .before .before .pre in
@@ -42,4 +44,4 @@ turn-spec =
     -- same-length-4
     (λ c. search needs)
     -- returns-4
-    (λ c. search needs))
+    (λ c. (search needs, called (c .before .before .make .ensures) refl)))
