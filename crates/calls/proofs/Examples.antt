@@ -5,6 +5,7 @@ use Prim.Native.Nat.{ℕ}
 use lib.ListN.{length, take}
 use Rattle.bits.specs.Bits.{number, list}
 use Rattle.calls.specs.Format.{numberAt, callNumber, isBuffer, elements, afterNumbers, afterBuffer, afterBuffers, afterCall, callEnd}
+use Rattle.calls.specs.Calls.{writePlaces}
 use Rattle.calls.specs.Text.{hexOf, decimals, decimal, hexes, dash, bufferText, line, writeLine, readLine}
 
 -- the lowest byte comes first
@@ -34,6 +35,15 @@ g2 =
 calls-end : (callEnd g2 ≡ 68) × (callEnd (g2 ++ (9 ∷ [])) ≡ 68) × (callEnd (take 67 g2) ≡ 0) × (callEnd (0 ∷ g2) ≡ 0) × (callEnd (5 ∷ []) ≡ 0) × (callEnd [] ≡ 0)
 unfolding g2 callEnd afterCall afterBuffers afterNumbers afterBuffer isBuffer numberAt number
 calls-end = (refl, refl, refl, refl, refl, refl)
+
+-- its numbers and buffers: rows, columns and K; data, mask and values
+places-of-g2 : writePlaces g2 3 8 ≡ record { «data» = 25; mask = 35; values = 45; cells = 55; others = 65; end = 68 }
+unfolding g2 writePlaces afterCall afterBuffers afterNumbers afterBuffer isBuffer numberAt number
+places-of-g2 = refl
+
+arguments-of-g2 : (callNumber g2 0 ≡ 1) × (callNumber g2 1 ≡ 1) × (callNumber g2 2 ≡ 1) × (elements g2 25 8 ≡ 1 ∷ []) × (elements g2 35 8 ≡ 1 ∷ []) × (elements g2 45 8 ≡ 0 ∷ [])
+unfolding g2 elements numberAt number list
+arguments-of-g2 = (refl, refl, refl, refl, refl, refl)
 
 -- `0`, `10`, `18446744073709551615`; `0a`, and one digit of it; `-`, `0aff`
 words-of-lines : (decimal 0 ≡ 48 ∷ []) × (decimal 10 ≡ 49 ∷ 48 ∷ []) × (length (decimal 18446744073709551615) ≡ 20) × (hexOf 2 10 ≡ 48 ∷ 97 ∷ []) × (hexOf 1 10 ≡ 97 ∷ [])

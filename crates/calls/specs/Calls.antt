@@ -78,7 +78,7 @@ pub record ReadLine (digits : ℕ) (out : List ℕ) (Promised : ℕ → List ℕ
   pub all : length out′ ≡ length out
   pub shows : text ≡ readLine number digits out′
 
--- of each call with its arguments
+-- that of each call, with its arguments as the entry point's promise names them
 abbrev pub PointerWrite : (n : ℕ) (wanted mask values cells metadata : List ℕ) → List ℕ → Type 0
 PointerWrite n wanted mask values cells metadata =
     WriteLine 2 cells metadata (λ number active new. pointer.Write n wanted mask values cells metadata (record { number = number; active = active; new = new }))
@@ -113,7 +113,7 @@ module _ (bs : List ℕ) where
   GridReadAt p =
       GridRead (callNumber bs 0) (callNumber bs 1) (callNumber bs 2) (elements bs (p .cells) 8) (elements bs (p .others) 1) (elements bs (p .shown) 8)
 
--- by the tag
+-- the line of a call by its tag
 pub data LineBy (bs text : List ℕ) : ℕ → Type 0 where
   pointerWrite : PointerWriteAt bs (writePlaces bs 1 1) text → LineBy bs text 1
   pointerRead : PointerReadAt bs (readPlaces bs 1 1) text → LineBy bs text 2
