@@ -250,18 +250,11 @@ pub fn call(s: &[u8], out: &mut [u8], put: usize) -> Made
     requires { ⌜ put + 9281 ≤ length (now out) ⌝ }
     ensures { λ r. ⌜ Printed (now (s .entry)) (r .taken) (now (out .entry)) put (now (out .exit)) (r .put) ⌝ }
 {
-    let tag = s[0];
-    if tag == 1 {
-        return pointer_write(s, out, put);
+    match s[0] {
+        1 => pointer_write(s, out, put),
+        2 => pointer_read(s, out, put),
+        3 => grid_write(s, out, put),
+        4 => grid_read(s, out, put),
+        _ => Made { taken: 0, put: put },
     }
-    if tag == 2 {
-        return pointer_read(s, out, put);
-    }
-    if tag == 3 {
-        return grid_write(s, out, put);
-    }
-    if tag == 4 {
-        return grid_read(s, out, put);
-    }
-    Made { taken: 0, put: put }
 }
