@@ -1,6 +1,6 @@
 -- Laws of what stands in the input. Assumes nothing.
 use mathlib.Core.Path.{_≡_, refl, sym, ap, ap₂, subst, _∙_}
-use mathlib.Core.Bool.{Bool, true, false, not, _&&_}
+use mathlib.Core.Bool.{Bool, true, false, not, cond, _&&_}
 use mathlib.Core.List.{List, _++_}
 use Prim.Native.Nat.{ℕ, suc, _+_, _-_, _*_, _^_, _≤_, _<_}
 use native.Mathlib.Nat.{lt-of-lt-of-le, le-trans, mul-le-mul-left}
@@ -80,22 +80,29 @@ a-buffer bs p w h = rw (buffer-is bs p w h)
 pub small : (w n : ℕ) → w ≤ 8 → n ≤ 512 → w * n ≤ 4096
 small w n l k = le-trans (mul-le-mul-left w k) (omega arith)
 
--- what does not end at 0 stands whole
-pub stands : (bs : List ℕ) (p w : ℕ) → (afterBuffer bs p w ≡ 0 → ⊥) → Stands bs p w
+-- the end of a buffer and that of the numbers, whichever way they are judged
+pub after-cases : (bs : List ℕ) (p w : ℕ) (P : ℕ → Type 0) → (Stands bs p w → P (p + 2 + w * many bs p)) → P 0 → P (afterBuffer bs p w)
 unfolding afterBuffer
-stands bs p w h = go (isBuffer bs p w) refl
+after-cases bs p w P f z = go (isBuffer bs p w) refl
   where
-    go : (t : Bool) → isBuffer bs p w ≡ t → Stands bs p w
-    go true k = is-buffer bs p w k
-    go false k = absurd (h (rw k))
+    go : (t : Bool) → isBuffer bs p w ≡ t → P (cond t (p + 2 + w * many bs p) 0)
+    go true e = f (is-buffer bs p w e)
+    go false e = z
+
+pub numbers-cases : (bs : List ℕ) (n : ℕ) (P : ℕ → Type 0) → (1 + 8 * n ≤ length bs → P (1 + 8 * n)) → P 0 → P (afterNumbers bs n)
+unfolding afterNumbers
+numbers-cases bs n P f z = go (leb (1 + 8 * n) (length bs)) refl
+  where
+    go : (t : Bool) → leb (1 + 8 * n) (length bs) ≡ t → P (cond t (1 + 8 * n) 0)
+    go true e = f (leb-true (1 + 8 * n) (length bs) e)
+    go false e = z
+
+-- what does not end at 0 stands there
+pub stands : (bs : List ℕ) (p w : ℕ) → (afterBuffer bs p w ≡ 0 → ⊥) → Stands bs p w
+stands bs p w = after-cases bs p w (λ x. (x ≡ 0 → ⊥) → Stands bs p w) (λ s _. s) (λ h. absurd (h refl))
 
 pub numbers-stand : (bs : List ℕ) (n : ℕ) → (afterNumbers bs n ≡ 0 → ⊥) → 1 + 8 * n ≤ length bs
-unfolding afterNumbers
-numbers-stand bs n h = go (leb (1 + 8 * n) (length bs)) refl
-  where
-    go : (t : Bool) → leb (1 + 8 * n) (length bs) ≡ t → 1 + 8 * n ≤ length bs
-    go true k = leb-true _ _ k
-    go false k = absurd (h (rw k))
+numbers-stand bs n = numbers-cases bs n (λ x. (x ≡ 0 → ⊥) → 1 + 8 * n ≤ length bs) (λ s _. s) (λ h. absurd (h refl))
 
 -- ---- elements
 

@@ -6,14 +6,14 @@ use mathlib.Core.List.{List, [], _∷_, _++_}
 use Prim.Native.Nat.{ℕ, _+_, _*_, _≤_}
 use native.Mathlib.Nat.{mul-le-mul-left}
 use native.Mathlib.Omega.{arith}
-use lib.Dec.{eqb, leb}
+use lib.Dec.{eqb}
 use lib.ListN.{length, getD, take, drop, length-append, length-drop, List·getD-append}
 use lib.Seq.{take-append-le, drop-append-le}
-use borrow.Author.Tests.{le-leb, leb-true}
+use borrow.Author.Tests.{le-leb}
 use Rattle.bits.specs.Bits.{number}
 use Rattle.bits.proofs.TestLaws.{same-test}
-use Rattle.calls.specs.Format.{numberAt, many, isBuffer, Stands, afterNumbers, afterBuffer, afterBuffers, afterCall, callEnd}
-use Rattle.calls.proofs.FormatLaws.{is-buffer, buffer-is}
+use Rattle.calls.specs.Format.{numberAt, many, isBuffer, afterNumbers, afterBuffer, afterBuffers, afterCall, callEnd}
+use Rattle.calls.proofs.FormatLaws.{is-buffer, buffer-is, after-cases, numbers-cases}
 
 -- the bytes that buffers of at most 512 elements take, by the widths of their elements
 abbrev pub most : List ℕ → ℕ
@@ -22,21 +22,12 @@ most (w ∷ ws) = 2 + w * 512 + most ws
 
 -- ---- bounds
 
--- a buffer's end, whichever way it is judged
 module _ (bs : List ℕ) (p w : ℕ) where
-  after-cases : (P : ℕ → Type 0) → (Stands bs p w → P (p + 2 + w * many bs p)) → P 0 → P (afterBuffer bs p w)
-  unfolding afterBuffer
-  after-cases P f z = go (isBuffer bs p w) refl
-    where
-      go : (t : Bool) → isBuffer bs p w ≡ t → P (cond t (p + 2 + w * many bs p) 0)
-      go true e = f (is-buffer bs p w e)
-      go false e = z
-
   after-most : afterBuffer bs p w ≤ p + 2 + w * 512
-  after-most = after-cases (λ x. x ≤ p + 2 + w * 512) (λ h. omega (arith, mul-le-mul-left w (h .few))) (omega arith)
+  after-most = after-cases bs p w (λ x. x ≤ p + 2 + w * 512) (λ h. omega (arith, mul-le-mul-left w (h .few))) (omega arith)
 
   after-within : afterBuffer bs p w ≤ length bs
-  after-within = after-cases (λ x. x ≤ length bs) (λ h. h .whole) (omega arith)
+  after-within = after-cases bs p w (λ x. x ≤ length bs) (λ h. h .whole) (omega arith)
 
 afters-most : (bs : List ℕ) (p : ℕ) (ws : List ℕ) → afterBuffers bs p ws ≤ p + most ws
 unfolding afterBuffers
@@ -47,14 +38,6 @@ afters-within : (bs : List ℕ) (p : ℕ) (ws : List ℕ) → p ≤ length bs �
 unfolding afterBuffers
 afters-within bs p [] h = h
 afters-within bs p (w ∷ ws) h = afters-within bs (afterBuffer bs p w) ws (after-within bs p w)
-
-numbers-cases : (bs : List ℕ) (n : ℕ) (P : ℕ → Type 0) → (1 + 8 * n ≤ length bs → P (1 + 8 * n)) → P 0 → P (afterNumbers bs n)
-unfolding afterNumbers
-numbers-cases bs n P f z = go (leb (1 + 8 * n) (length bs)) refl
-  where
-    go : (t : Bool) → leb (1 + 8 * n) (length bs) ≡ t → P (cond t (1 + 8 * n) 0)
-    go true e = f (leb-true (1 + 8 * n) (length bs) e)
-    go false e = z
 
 within : (bs : List ℕ) (n : ℕ) (ws : List ℕ) → afterCall bs n ws ≤ length bs
 unfolding afterCall
