@@ -1,51 +1,48 @@
 -- The loops over the cells of a row: copying, setting the bits of entries, and storing. Assumes nothing.
-use mathlib.Core.Path.{_≡_, refl, sym, ap, ap₂, _∙_}
-use mathlib.Core.Bool.{Bool, cond}
+use mathlib.Core.Path.{_≡_, refl, sym, ap, _∙_}
+use mathlib.Core.Bool.{cond}
 use mathlib.Core.List.{List}
 use Prim.Native.Nat.{ℕ, _+_, _*_, _/_, _%_, _<_}
 use native.Mathlib.Omega.{arith}
-use native.Mathlib.Numerals.{add-one}
 use lib.Dec.{eqb}
 use lib.ListN.{length, getD, take, set, length-set}
-use lib.Seq.{take-suc}
 use Rattle.bits.specs.Bits.{has, at, bytes, list, Below}
 use Rattle.bits.proofs.BoundLaws.{list-getD, list-done}
 use Rattle.bits.proofs.BitLaws.{is-word}
 use Rattle.bits.proofs.ByteLaws.{below-set, at-byte, is-bytes, bytes-more}
-use Rattle.pointercalls.specs.Pointer.{pointer, replacement, shown, stored}
+use Rattle.pointercalls.specs.Pointer.{pointer, replacement, entry, shown, stored}
 use Rattle.pointercalls.proofs.EntryLaws.{shown-snoc}
-use Rattle.pointer.proofs.OctetLaws.{at-changed}
+use Rattle.pointer.proofs.OctetLaws.{at-changed, one-more}
 
 pub copy-done : (j : ℕ) (cells out : List ℕ) → length cells ≡ 64 → length out ≡ 64 → j ≡ 64 → take j out ≡ list j (λ i. getD cells i 0) → out ≡ cells
 copy-done j cells out l k e h = list-done j 64 (λ i. getD cells i 0) out k e h ∙ sym (list-getD 64 (λ i. getD cells i 0) 0 cells l (λ i _. refl))
 
--- after i entries each bit is what they and the cells show
-pub record Patching (cells es out : List ℕ) (i : ℕ) : Type 0 where
+-- after i entries of the metadata m each bit is what they and the cells show
+pub record Patching (cells m out : List ℕ) (i : ℕ) : Type 0 where
   pub long : length out ≡ 64
-  pub bits : (q : ℕ) → at out q ≡ shown (take i es) q (at cells q)
+  pub bits : (q : ℕ) → at out q ≡ shown (list i (entry m)) q (at cells q)
   pub below : Below 256 out
 
-module _ (cells es : List ℕ) where
-  pub patch-start : length cells ≡ 64 → Below 256 cells → Patching cells es cells 0
-  unfolding shown
+module _ (cells m : List ℕ) where
+  pub patch-start : length cells ≡ 64 → Below 256 cells → Patching cells m cells 0
+  unfolding shown list
   patch-start l b = record { long = l; bits = λ q. refl; below = b }
 
-  pub patch-more : (out : List ℕ) (i v : ℕ) (b : Bool) → i < length es → v < 256 → b ≡ replacement (getD es i 0)
-      → ((j : ℕ) → has v j ≡ cond (eqb (pointer (getD es i 0) % 8) j) b (has (getD out (pointer (getD es i 0) / 8) 0) j))
-      → Patching cells es out i → Patching cells es (set out (pointer (getD es i 0) / 8) v) (i + 1)
-  patch-more out i v b l f r h p =
-      let e : ℕ = getD es i 0 in
+  pub patch-more : (out : List ℕ) (i e v : ℕ) → e ≡ entry m i → v < 256 → ((j : ℕ) → has v j ≡ cond (eqb (pointer e % 8) j) (replacement e) (has (getD out (pointer e / 8) 0) j))
+      → Patching cells m out i → Patching cells m (set out (pointer e / 8) v) (i + 1)
+  patch-more out i e v r f h p =
       let k : length out ≡ 64 = p .long in
       record {
         long = length-set out (pointer e / 8) v ∙ k;
         bits = λ q.
-            at-changed out (pointer e) q v b (omega arith) h ∙ ap₂ (cond (eqb (pointer e) q)) r (p .bits q)
-            ∙ sym (ap (λ l. shown l q (at cells q)) (ap (λ x. take x es) (add-one i) ∙ take-suc es i 0 l) ∙ shown-snoc (take i es) e q (at cells q));
+            at-changed out (pointer e) q v (replacement e) (omega arith) h ∙ ap (cond (eqb (pointer e) q) (replacement e)) (p .bits q)
+            ∙ sym (ap (λ l. shown l q (at cells q)) (one-more m i e r) ∙ shown-snoc (list i (entry m)) e q (at cells q));
         below = below-set 256 out (pointer e / 8) v (p .below) f;
       }
 
-  pub patch-done : (out : List ℕ) (i a : ℕ) → i ≡ a → Patching cells es out i → out ≡ bytes 64 (λ p. shown (take a es) p (at cells p))
-  patch-done out i a e p = is-bytes 64 (λ q. shown (take a es) q (at cells q)) out (p .long) (p .below) (λ q _. p .bits q ∙ ap (λ x. shown (take x es) q (at cells q)) e)
+  pub patch-done : (out : List ℕ) (i a : ℕ) → i ≡ a → Patching cells m out i → out ≡ bytes 64 (λ p. shown (list a (entry m)) p (at cells p))
+  patch-done out i a e p =
+      is-bytes 64 (λ q. shown (list a (entry m)) q (at cells q)) out (p .long) (p .below) (λ q _. p .bits q ∙ ap (λ x. shown (list x (entry m)) q (at cells q)) e)
 
 -- one byte of cells more
 pub store-more : (wanted mask values cells : List ℕ) (j v : ℕ) → j < length cells → v < 256

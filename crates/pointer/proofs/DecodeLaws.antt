@@ -6,26 +6,24 @@ use mathlib.Core.Logic.{_≢_, ⊎-elim}
 use Prim.Native.Nat.{ℕ, _+_, _-_, _*_, _/_, _%_, _^_, _≤_, _<_}
 use native.Mathlib.Nat.{div-one, mod-lt}
 use native.Mathlib.Omega.{arith}
-use native.Mathlib.Numerals.{add-one}
 use borrow.Author.Tests.{le-leb, lt-leb, eq-eqb, ne-eqb}
 use lib.Count.{ones}
 use lib.Dec.{eqb, leb}
-use lib.ListN.{length, getD, take, set, replicate, length-set, length-replicate}
+use lib.ListN.{length, getD, set, replicate, length-set, length-replicate}
 use lib.Pow.{pow-pos}
-use lib.Seq.{take-suc, take-take, getD-take}
 use Rattle.bits.specs.Bits.{num, some, sum, list, has, at, number, Below}
 use Rattle.bits.proofs.TestLaws.{lt-or-le, and-in, eqb-same}
-use Rattle.bits.proofs.BoundLaws.{some-in, some-none, some-ext, sum-ext, getD-list, take-list}
+use Rattle.bits.proofs.BoundLaws.{some-in, some-none, sum-ext}
 use Rattle.bits.proofs.BitLaws.{has-low, has-ext, one-shl, ones-bits}
-use Rattle.bits.proofs.ByteLaws.{at-zeros}
+use Rattle.bits.proofs.ByteLaws.{getD-zeros, at-zeros, below-set}
 use Rattle.bits.proofs.DigitLaws.{window-bit}
-use Rattle.pointercalls.specs.Pointer.{size, pointer, entry, spare, active, unary, idle, formed, held, names, repeats}
-use Rattle.pointer.specs.Steps.{Marked, Decoded}
+use Rattle.pointercalls.specs.Pointer.{size, pointer, replacement, entry, spare, active, unary, idle, formed, held, names, repeats, verdict}
+use Rattle.pointer.specs.Steps.{Marked, Counted, Decoded}
 use Rattle.pointercalls.proofs.EntryLaws.{names-snoc, repeats-snoc}
-use Rattle.pointercalls.proofs.MetadataLaws.{has-entry, entry-lt, unary-ones, active-le}
+use Rattle.pointercalls.proofs.MetadataLaws.{has-entry, entry-lt, unary-ones, active-full, active-unary}
 use Rattle.pointercalls.proofs.CodecLaws.{spare-entry}
 use Rattle.pointercalls.proofs.NumberLaws.{verdict-tests}
-use Rattle.pointer.proofs.OctetLaws.{at-changed}
+use Rattle.pointer.proofs.OctetLaws.{tenth, set-before, at-changed, one-more}
 
 -- ---- an entry
 
@@ -59,90 +57,97 @@ count-ones n last l =
     ap (λ d. ones (last % d)) (one-shl n l) ∙ ones-bits n (last % 2 ^ n) (mod-lt last (pow-pos n))
     ∙ sum-ext n (λ k. num (has (last % 2 ^ n) k)) (λ k. num (has last k)) (λ k h. ap num (has-low n last k h))
 
--- ---- the entries that are not active
+full-bit : (m : List ℕ) (x : ℕ) → x ≡ getD m 0 0 → eqb (x % 2) 1 ≡ at m 0
+unfolding at has
+full-bit m x h = ap (λ y. eqb (y % 2) 1) (h ∙ sym (div-one (getD m 0 0)))
 
-module _ (n a : ℕ) (es : List ℕ) where
+-- the count, by the lowest bit of the first byte x
+pub count-full : (n : ℕ) (m : List ℕ) (x : ℕ) → x ≡ getD m 0 0 → x % 2 ≡ 1 → n ≡ active n m
+count-full n m x h o = sym (active-full n m (sym (full-bit m x h) ∙ eq-eqb (x % 2) 1 o))
+
+pub count-part : (n : ℕ) (m : List ℕ) (x last : ℕ) → x ≡ getD m 0 0 → x % 2 ≢ 1 → n ≤ 10 → last ≡ entry m (n - 1) → ones (last % (1 * 2 ^ (n - 1) % 2 ^ 64)) ≡ active n m
+count-part n m x last h o l e =
+    count-ones (n - 1) last (omega arith) ∙ ap (λ y. sum (n - 1) (λ k. num (has y k))) e ∙ sym (active-unary n m (sym (full-bit m x h) ∙ ne-eqb (x % 2) 1 o))
+
+-- ---- what is wrong with the entries
+
+module _ (n : ℕ) (m : List ℕ) (a : ℕ) (repeated : Bool) (c : Counted n m a repeated) where
   -- entry k is not active and does not hold what it should
-  abbrev pub stray : ℕ → Bool
-  stray k = leb a k && not (eqb (getD es k 0) (idle n a k))
+  abbrev stray : ℕ → Bool
+  stray k = leb a k && not (eqb (entry m k) (idle n a k))
 
-  pub formed-not : (e : ℕ) → a ≤ e → e < n → getD es e 0 ≢ idle n a e → false ≡ not (some n stray)
-  formed-not e l h d = sym (ap not (some-in n stray e h (and-in (le-leb a e l) (ap not (ne-eqb (getD es e 0) (idle n a e) d)))))
+  well : not (some n stray) ≡ formed n m
+  unfolding formed
+  well = ap (λ x. not (some n (λ e. leb x e && not (eqb (entry m e) (idle n x e))))) (c .count)
 
-  pub formed-all : (e : ℕ) → n ≤ e → ((k : ℕ) → k < e → a ≤ k → getD es k 0 ≡ idle n a k) → true ≡ not (some n stray)
-  formed-all e l h =
-      sym (ap not (some-none n stray (λ k q.
-      ⊎-elim (λ d. rw (lt-leb a k d)) (λ d. rw (le-leb a k d, h k (omega arith) d, eqb-same (idle n a k))) (lt-or-le k a))))
+  clean : (x : ℕ) → x ≡ entry m n → not (eqb x 0) ≡ spare n m
+  clean x h = ap (λ x. not (eqb x 0)) h ∙ sym (spare-entry n m (c .long))
+
+  pub judged-spare : (x : ℕ) → x ≡ entry m n → x ≢ 0 → 3 ≡ verdict n m
+  judged-spare x h d = verdict-tests n m true _ _ (sym (ap not (ne-eqb x 0 d)) ∙ clean x h) refl refl
+
+  module _ (x : ℕ) (h : x ≡ entry m n) (z : x ≡ 0) where
+    unspared : false ≡ spare n m
+    unspared = sym (ap not (eq-eqb x 0 z)) ∙ clean x h
+
+    pub judged-stray : (e : ℕ) → a ≤ e → e < n → entry m e ≢ idle n a e → 4 ≡ verdict n m
+    judged-stray e l k d =
+        verdict-tests n m false false _ unspared
+        (sym (ap not (some-in n stray e k (and-in (le-leb a e l) (ap not (ne-eqb (entry m e) (idle n a e) d))))) ∙ well) refl
+
+    pub judged-formed : (e : ℕ) → n ≤ e → ((k : ℕ) → k < e → a ≤ k → entry m k ≡ idle n a k) → (t : Bool) → repeated ≡ t → cond t 5 0 ≡ verdict n m
+    judged-formed e l i t r =
+        verdict-tests n m false true t unspared
+        (sym
+        (ap not
+        (some-none n stray (λ k q.
+        ⊎-elim (λ d. rw (lt-leb a k d)) (λ d. rw (le-leb a k d, i k (omega arith) d, eqb-same (idle n a k))) (lt-or-le k a)))) ∙ well) (sym r ∙ c .twice)
 
 -- ---- the positions that the entries name
 
--- after i entries
-pub record Marking (es : List ℕ) (i : ℕ) (repeated : Bool) (served : List ℕ) : Type 0 where
+-- after i entries of the metadata m
+pub record Marking (m : List ℕ) (i : ℕ) (repeated : Bool) (served : List ℕ) : Type 0 where
   pub long : length served ≡ 64
-  pub twice : repeated ≡ repeats (take i es)
-  pub bits : (q : ℕ) → at served q ≡ names (take i es) q
+  pub twice : repeated ≡ repeats (list i (entry m))
+  pub bits : (q : ℕ) → at served q ≡ names (list i (entry m)) q
+  pub below : Below 256 served
 
-module _ (es : List ℕ) where
-  pub mark-start : Marking es 0 false (replicate 64 0)
-  unfolding names repeats
-  mark-start = record { long = length-replicate {A = ℕ} 64 0; twice = refl; bits = at-zeros 64 }
+module _ (m : List ℕ) where
+  pub mark-start : Marking m 0 false (replicate 64 0)
+  unfolding names repeats list
+  mark-start = record { long = length-replicate {A = ℕ} 64 0; twice = refl; bits = at-zeros 64; below = λ i. rw (getD-zeros 64 i) (omega arith) }
 
-  pub mark-more : (i v : ℕ) (t repeated : Bool) (served : List ℕ) → i < length es → Marking es i repeated served
-      → t ≡ repeated || eqb (getD served (pointer (getD es i 0) / 8) 0 / 2 ^ (pointer (getD es i 0) % 8) % 2) 1
-      → ((j : ℕ) → has v j ≡ cond (eqb (pointer (getD es i 0) % 8) j) true (has (getD served (pointer (getD es i 0) / 8) 0) j))
-      → Marking es (i + 1) t (set served (pointer (getD es i 0) / 8) v)
-  unfolding at has
-  mark-more i v t repeated served l p r h =
-      let e : ℕ = getD es i 0 in
-      let k : length served ≡ 64 = p .long in
-      let s : take (i + 1) es ≡ take i es ++ (e ∷ []) = ap (λ x. take x es) (add-one i) ∙ take-suc es i 0 l in
+  -- p is the position that entry i names, marked as by an entry that shows a 1 there
+  pub mark-more : (i e v : ℕ) (repeated : Bool) (served : List ℕ) → let p = e % 512 in e ≡ entry m i → v < 256
+      → ((j : ℕ) → has v j ≡ cond (eqb (pointer (p + 512) % 8) j) (replacement (p + 512)) (has (getD served (p / 8) 0) j)) → Marking m i repeated served
+      → Marking m (i + 1) (repeated || eqb (getD served (p / 8) 0) v) (set served (p / 8) v)
+  unfolding at
+  mark-more i e v repeated served r f h c =
+      let p : ℕ = e % 512 in
+      let k : length served ≡ 64 = c .long in
+      let o : pointer (p + 512) % 8 ≡ p % 8 = omega arith in
+      let u : (p + 512) / 512 ≡ 1 = omega arith in
+      let marks : (j : ℕ) → has v j ≡ cond (eqb (p % 8) j) true (has (getD served (p / 8) 0) j) = λ j. h j ∙ ap₂ (λ k t. cond (eqb k j) t (has (getD served (p / 8) 0) j)) o (sym (tenth (p + 512)) ∙ ap (λ x. eqb (x % 2) 1) u) in
+      let s : list (i + 1) (entry m) ≡ list i (entry m) ++ (e ∷ []) = one-more m i e r in
       record {
-        long = length-set served (pointer e / 8) v ∙ k;
-        twice = r ∙ ap₂ _||_ (p .twice) (p .bits (pointer e)) ∙ sym (ap repeats s ∙ repeats-snoc (take i es) e);
-        bits = λ q.
-            at-changed served (pointer e) q v true (omega arith) h ∙ ap (cond (eqb (pointer e) q) true) (p .bits q)
-            ∙ sym (ap (λ l. names l q) s ∙ names-snoc (take i es) e q);
+        long = length-set served (p / 8) v ∙ k;
+        twice = ap₂ _||_ (c .twice) (set-before (getD served (p / 8) 0) v (p % 8) (c .below (p / 8)) f marks ∙ c .bits p) ∙ sym (ap repeats s ∙ repeats-snoc (list i (entry m)) e);
+        bits = λ q. at-changed served p q v true (omega arith) marks ∙ ap (cond (eqb p q) true) (c .bits q) ∙ sym (ap (λ l. names l q) s ∙ names-snoc (list i (entry m)) e q);
+        below = below-set 256 served (p / 8) v (c .below) f;
       }
 
-  pub mark-done : (i a : ℕ) (repeated : Bool) (served : List ℕ) → i ≡ a → Marking es i repeated served → Marked (take a es) repeated served
+  pub mark-done : (i a : ℕ) (repeated : Bool) (served : List ℕ) → i ≡ a → Marking m i repeated served → Marked (list a (entry m)) repeated served
   mark-done i a repeated served e p = rw (← e) (record { twice = p .twice; bits = p .bits })
 
 -- ---- all of it
 
-full-bit : (m : List ℕ) → eqb (getD m 0 0 % 2) 1 ≡ at m 0
-unfolding at has
-full-bit m = ap (λ y. eqb (y % 2) 1) (sym (div-one (getD m 0 0)))
-
-module _ (n : ℕ) (m es : List ℕ) (loaded : take (n + 1) es ≡ list (n + 1) (entry m)) where
-  loaded-at : (e : ℕ) → e ≤ n → getD es e 0 ≡ entry m e
-  loaded-at e h = sym (getD-take (n + 1) es e 0 (omega arith)) ∙ ap (λ l. getD l e 0) loaded ∙ getD-list (n + 1) (entry m) 0 e (omega arith)
-
-  loaded-take : (a : ℕ) → a ≤ n → take a es ≡ list a (entry m)
-  loaded-take a h = sym (take-take a (n + 1) es (omega arith)) ∙ ap (take a) loaded ∙ take-list a (n + 1) (entry m) 0 (omega arith)
-
-  -- the count, by the lowest bit of the first byte
-  pub counted : (a : ℕ) → 1 ≤ n → a ≡ cond (eqb (getD m 0 0 % 2) 1) n (sum (n - 1) (λ k. num (has (getD es (n - 1) 0) k))) → a ≡ active n m
-  unfolding active
-  counted a l h = h ∙ rw (full-bit m, loaded-at (n - 1) (omega arith))
-
-  well : (a : ℕ) → a ≡ active n m → not (some n (stray n a es)) ≡ formed n m
-  unfolding formed
-  well a c =
-      ap not
-      (some-ext n (stray n a es) (λ e. leb (active n m) e && not (eqb (entry m e) (idle n (active n m) e)))
-      (λ e h. ap₂ (λ x y. leb x e && not (eqb y (idle n x e))) c (loaded-at e (omega arith))))
-
-  pub decoded : (a k : ℕ) (ok repeated : Bool) (served : List ℕ) → 1 ≤ n → length m ≡ size n → a ≡ active n m → ok ≡ not (some n (stray n a es))
-      → Marked (take a es) repeated served → k ≡ cond (not (eqb (getD es n 0) 0)) 3 (cond ok (cond repeated 5 0) 4) → Decoded n m k a es served
+module _ (n : ℕ) (m : List ℕ) (a : ℕ) (c : a ≡ active n m) (l : a ≤ n) (repeated : Bool) (served : List ℕ) (p : Marked (list a (entry m)) repeated served) where
+  is-held : list a (entry m) ≡ held n m
   unfolding held
-  decoded a k ok repeated served l s c o p h =
-      let few : a ≤ n = omega (arith, active-le n m l) in
-      let clean : not (eqb (getD es n 0) 0) ≡ spare n m = ap (λ x. not (eqb x 0)) (loaded-at n (omega arith)) ∙ sym (spare-entry n m s) in
-      let differ : repeated ≡ repeats (held n m) = p .twice ∙ ap repeats (loaded-take a few ∙ ap (λ x. list x (entry m)) c) in
-      record {
-        judged = h ∙ verdict-tests n m _ _ _ clean (o ∙ well a c) differ;
-        count = c;
-        few = few;
-        loaded = loaded-take a few;
-        bits = λ q. p .bits q ∙ ap (λ l. names l q) (loaded-take a few);
-      }
+  is-held = ap (λ x. list x (entry m)) c
+
+  pub counted : 1 ≤ n → n ≤ 10 → length m ≡ size n → Counted n m a repeated
+  counted least most long = record { least = least; most = most; long = long; count = c; few = l; twice = p .twice ∙ ap repeats is-held }
+
+  pub decoded : (k : ℕ) → k ≡ verdict n m → Decoded n m k a served
+  decoded k h = record { judged = h; count = c; few = l; bits = λ q. p .bits q ∙ ap (λ l. names l q) is-held }

@@ -91,9 +91,9 @@ pub record Planning (n : ℕ) (f : ℕ → Bool) (l es : List ℕ) (a q : ℕ) :
   pub taken : take a es ≡ l ++ positions q f
 
 module _ (n : ℕ) (f : ℕ → Bool) where
-  pub plan-start : (es : List ℕ) (held : ℕ) → length es ≡ 11 → held ≤ n → Planning n f (take held es) es held 0
+  pub plan-start : (l es : List ℕ) (held : ℕ) → length es ≡ 11 → held ≤ n → take held es ≡ l → Planning n f l es held 0
   unfolding positions
-  plan-start es held k h = record { long = k; few = h; reach = omega arith; taken = sym (append-nil (take held es)) }
+  plan-start l es held k h e = record { long = k; few = h; reach = omega arith; taken = e ∙ sym (append-nil l) }
 
   module _ (most : n ≤ 10) (l es : List ℕ) (a q : ℕ) (c : Planning n f l es a q) where
     counted : length (l ++ positions q f) ≡ a

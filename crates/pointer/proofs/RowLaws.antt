@@ -39,17 +39,17 @@ module _ (n : ℕ) (cells m out : List ℕ) where
         eqb-true (length out) 64 (and-right (eqb (length cells) 64) (eqb (length out) 64) (s .sized)),
       )
 
-  module _ (s : (1 ≤ n) × (n ≤ 10) × (length cells ≡ 64) × (length m ≡ size n) × (length out ≡ 64)) (k a : ℕ) (es served : List ℕ) (d : Decoded n m k a es served) where
+  module _ (s : (1 ≤ n) × (n ≤ 10) × (length cells ≡ 64) × (length m ≡ size n) × (length out ≡ 64)) (k a : ℕ) (served : List ℕ) (d : Decoded n m k a served) where
     judged : k ≡ readNumber n (length cells) m (length out)
     judged = d .judged ∙ sym (read-ok n (length cells) m (length out) (s .0) (s .1) (s .2) (s .3) (s .4))
 
     pub read-judged : 0 < k → Read n cells m out (record { number = k }) out
     read-judged h = read-refused n k cells m out judged (omega arith)
 
-    pub read-shown : k ≡ 0 → (out′ : List ℕ) → out′ ≡ bytes 64 (λ p. shown (take a es) p (at cells p)) → Read n cells m out (record { number = 0 }) out′
+    pub read-shown : k ≡ 0 → (out′ : List ℕ) → out′ ≡ bytes 64 (λ p. shown (list a (entry m)) p (at cells p)) → Read n cells m out (record { number = 0 }) out′
     unfolding held
     read-shown z out′ h =
-        read-accepted n cells m out out′ (sym z ∙ judged) (h ∙ ap (λ l. bytes 64 (λ p. shown l p (at cells p))) (d .loaded ∙ ap (λ x. list x (entry m)) (d .count)))
+        read-accepted n cells m out out′ (sym z ∙ judged) (h ∙ ap (λ x. bytes 64 (λ p. shown (list x (entry m)) p (at cells p))) (d .count))
 
 -- ---- a write
 
@@ -80,7 +80,7 @@ module _ (n : ℕ) (wanted mask values cells m : List ℕ) where
         notes = s .long;
       }
 
-  module _ (s : Sized n wanted mask values cells m) (k a : ℕ) (es served : List ℕ) (d : Decoded n m k a es served) where
+  module _ (s : Sized n wanted mask values cells m) (k a : ℕ) (served : List ℕ) (d : Decoded n m k a served) where
     write-judges : writeJudged n wanted mask values (length cells) m ≡ k
     write-judges = write-ok n wanted mask values (length cells) m (s .least) (s .most) (s .wants) (s .masks) (s .holds) (s .stores) (s .notes) ∙ sym (d .judged)
 
@@ -88,21 +88,21 @@ module _ (n : ℕ) (wanted mask values cells m : List ℕ) where
     unfolding writeNumber
     write-judged h = write-refused n wanted mask values cells m k (sym (rw write-judges (first-number k _ h))) (omega arith)
 
-    module _ (z : k ≡ 0) (j b : ℕ) (fs : List ℕ) (p : Planned n (unservedAt wanted mask values served) (take a es) j b fs) where
-      is-held : take a es ≡ held n m
+    module _ (z : k ≡ 0) (j b : ℕ) (fs : List ℕ) (p : Planned n (unservedAt wanted mask values served) (list a (entry m)) j b fs) where
+      is-held : list a (entry m) ≡ held n m
       unfolding held
-      is-held = d .loaded ∙ ap (λ x. list x (entry m)) (d .count)
+      is-held = ap (λ x. list x (entry m)) (d .count)
 
       -- the plan's entries, without the bits
       row : List ℕ
       row = held n m ++ positions 512 (unserved wanted mask values (held n m))
 
-      is-row : take a es ++ positions 512 (unservedAt wanted mask values served) ≡ row
-      unfolding row unserved held
+      is-row : list a (entry m) ++ positions 512 (unservedAt wanted mask values served) ≡ row
+      unfolding row unserved
       is-row =
           ap₂ _++_ is-held
           (positions-ext 512 (unservedAt wanted mask values served) (unserved wanted mask values (held n m))
-          (λ q _. ap (λ t. at mask q && xor (at wanted q) (at values q) && not t) (d .bits q ∙ ap (λ x. names (list x (entry m)) q) (d .count))))
+          (λ q _. ap (λ t. at mask q && xor (at wanted q) (at values q) && not t) (d .bits q)))
 
       length-row : length row ≡ active n m + needed wanted mask values (held n m)
       unfolding row needed

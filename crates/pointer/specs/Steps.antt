@@ -5,8 +5,8 @@ use mathlib.Core.Bool.{Bool, not, xor, cond, _&&_}
 use mathlib.Core.List.{List, _++_}
 use lib.ListN.{length, take}
 use lib.Dec.{eqb, ltb}
-use Rattle.bits.specs.Bits.{list, has, at}
-use Rattle.pointercalls.specs.Pointer.{size, entry, active, names, repeats, positions, slot, verdict}
+use Rattle.bits.specs.Bits.{has, at}
+use Rattle.pointercalls.specs.Pointer.{size, active, held, names, repeats, positions, slot, verdict}
 
 -- the metadata's bits after nine others, as digits of ten bits: the full bit is the highest of the first, and each entry is one of the others
 unfoldable pub digit : ℕ → List ℕ → ℕ → ℕ
@@ -28,13 +28,21 @@ pub record Marked (es : List ℕ) (repeated : Bool) (served : List ℕ) : Type 0
   pub twice : repeated ≡ repeats es
   pub bits : (p : ℕ) → at served p ≡ names es p
 
+-- what is known of the metadata m when its entries are judged
+pub record Counted (n : ℕ) (m : List ℕ) (a : ℕ) (repeated : Bool) : Type 0 where
+  pub least : 1 ≤ n
+  pub most : n ≤ 10
+  pub long : length m ≡ size n
+  pub count : a ≡ active n m
+  pub few : a ≤ n
+  pub twice : repeated ≡ repeats (held n m)
+
 -- what is found in the metadata m
-pub record Decoded (n : ℕ) (m : List ℕ) (number a : ℕ) (entries served : List ℕ) : Type 0 where
+pub record Decoded (n : ℕ) (m : List ℕ) (number a : ℕ) (served : List ℕ) : Type 0 where
   pub judged : number ≡ verdict n m
   pub count : a ≡ active n m
   pub few : a ≤ n
-  pub loaded : take a entries ≡ list a (entry m)
-  pub bits : (p : ℕ) → at served p ≡ names (list a (entry m)) p
+  pub bits : (p : ℕ) → at served p ≡ names (held n m) p
 
 -- position p is stuck at the other value than the wanted one, and not marked as served
 abbrev pub unservedAt : List ℕ → List ℕ → List ℕ → List ℕ → ℕ → Bool

@@ -1,11 +1,12 @@
 // The 64 bytes of a row.
-use super::octets::with_bit;
+use super::decode::entry_at;
+use super::octets::shown;
 ghost use mathlib.Core.Path.{_≡_};
 ghost use mathlib.Core.Bool.{cond};
 ghost use Prim.Native.Nat.{ℕ, _≤_};
-ghost use lib.ListN.{length, take};
-ghost use Rattle.bits.specs.Bits.{has, at, bytes};
-ghost use Rattle.pointercalls.specs.Pointer.{shown, stored};
+ghost use lib.ListN.{length};
+ghost use Rattle.bits.specs.Bits.{list, has, at, bytes};
+ghost use Rattle.pointercalls.specs.Pointer.{entry, shown, stored};
 
 pub fn copy(cells: &[u8], out: &mut [u8])
     requires { ⌜ (length (now cells) ≡ 64) × (length (now out) ≡ 64) ⌝ }
@@ -18,16 +19,16 @@ pub fn copy(cells: &[u8], out: &mut [u8])
     }
 }
 
-// Each of the first a entries sets its bit.
-pub fn patch(out: &mut [u8], es: [usize; 11], a: usize)
+// Each of the first a entries of the metadata m shows its bit.
+pub fn patch(out: &mut [u8], m: &[u8], a: usize)
     requires { ⌜ (length (now out) ≡ 64) × (a ≤ 10) ⌝ }
-    ensures { λ _. ⌜ now (out .exit) ≡ bytes 64 (λ p. shown (take a es) p (at (now (out .entry)) p)) ⌝ }
+    ensures { λ _. ⌜ now (out .exit) ≡ bytes 64 (λ p. shown (list a (entry (now (m .entry)))) p (at (now (out .entry)) p)) ⌝ }
 {
     let mut i = 0;
     while i < a {
-        let e = es[i];
-        let p = e % 512;
-        out[p / 8] = with_bit(out[p / 8], p % 8, e / 512 % 2 == 1);
+        let e = entry_at(m, i);
+        let q = e % 512 / 8;
+        out[q] = shown(out[q], e);
         i += 1;
     }
 }

@@ -77,9 +77,8 @@ fn read_row(n: usize, cells: &[u8], metadata: &[u8], out: &mut [u8]) -> ReadAnsw
     if 0 < k {
         return ReadAnswer { number: k };
     }
-    let es = row.entries;
     cells::copy(cells, out);
-    cells::patch(out, es, row.active);
+    cells::patch(out, metadata, row.active);
     ReadAnswer { number: 0 }
 }
 
@@ -104,9 +103,8 @@ fn write_row(
             new: 0,
         };
     }
-    let old = row.entries;
     let served = row.served;
-    let plan = plan::planned(n, data, mask, values, served, old, row.active);
+    let plan = plan::planned(n, data, mask, values, served, metadata, row.active);
     let full = plan.number;
     if 0 < full {
         return WriteAnswer {

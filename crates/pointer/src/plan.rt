@@ -1,8 +1,10 @@
 // Which entries a write needs: those that are active, and one for each unserved position.
+use super::decode::load;
 ghost use mathlib.Core.Path.{_≡_};
 ghost use Prim.Native.Nat.{ℕ, _≤_, _<_};
-ghost use lib.ListN.{length, take};
-ghost use Rattle.bits.specs.Bits.{has};
+ghost use lib.ListN.{length};
+ghost use Rattle.bits.specs.Bits.{list, has};
+ghost use Rattle.pointercalls.specs.Pointer.{entry};
 ghost use Rattle.pointer.specs.Steps.{unservedAt, unservedFrom, Planned};
 
 pub struct Plan {
@@ -18,13 +20,13 @@ pub fn planned(
     mask: &[u8],
     values: &[u8],
     served: [u8; 64],
-    old: [usize; 11],
+    m: &[u8],
     held: usize,
 ) -> Plan
     requires { ⌜ (held ≤ n) × (n ≤ 10) × (length (now «data») ≡ 64) × (length (now mask) ≡ 64) × (length (now values) ≡ 64) ⌝ }
-    ensures { λ r. ⌜ Planned n (unservedAt (now («data» .entry)) (now (mask .entry)) (now (values .entry)) served) (take held old) (r .number) (r .active) (r .entries) ⌝ }
+    ensures { λ r. ⌜ Planned n (unservedAt (now («data» .entry)) (now (mask .entry)) (now (values .entry)) served) (list held (entry (now (m .entry)))) (r .number) (r .active) (r .entries) ⌝ }
 {
-    let mut es = old;
+    let mut es = load(m, held);
     let mut a = held;
     let mut q = 0;
     while q < 512 {

@@ -1,5 +1,5 @@
 -- `load` reads entry by entry. Assumes nothing.
-use Prim.Native.Nat.{_+_, _-_, _≤_}
+use Prim.Native.Nat.{_-_, _≤_}
 use mathlib.Core.Path.{_≡_, refl}
 use lib.ListN.{length, take, length-set}
 use native.Mathlib.Omega.{arith}
@@ -10,10 +10,10 @@ use Rattle.pointer.proofs.decode.load.Statement.{statement}
 use Rattle.pointer.proofs.decode.load.Tie as tie
 
 abbrev Inv-loop : tie.InvT-loop
-Inv-loop n m es₀ e₀ es e = (length es ≡ 11) × (e ≤ n + 1) × (take e es ≡ list e (entry m))
+Inv-loop m a es₀ e₀ es e = (length es ≡ 11) × (e ≤ a) × (take e es ≡ list e (entry m))
 
 abbrev μ-loop : tie.MeasureT-loop
-μ-loop n m es₀ e₀ es e = n + 1 - e
+μ-loop m a es₀ e₀ es e = a - e
 
 pub load-spec : {M : Type 1} → statement M
 load-spec =
@@ -35,4 +35,4 @@ load-spec =
     -- loop-again
     (λ c. let i = c .before .before .loop .inv in (simp length-set (i .0), omega arith, list-more _ _ _ _ (omega arith) (i .2) (c .entry-at .ensures)))
     -- returns
-    (λ c. let e : c .before .loop .e ≡ c .before .before .before .args .n + 1 = omega arith in rw (← e) (c .before .loop .inv .2)))
+    (λ c. let e : c .before .loop .e ≡ c .before .before .before .args .a = omega arith in rw (← e) (c .before .loop .inv .2)))

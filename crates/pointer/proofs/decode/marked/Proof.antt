@@ -1,16 +1,15 @@
 -- `marked` marks entry by entry. Assumes nothing.
 use Prim.Native.Nat.{_-_, _≤_}
-use mathlib.Core.Path.{refl}
 use native.Mathlib.Omega.{arith}
 use Rattle.pointer.proofs.DecodeLaws.{Marking, mark-start, mark-more, mark-done}
 use Rattle.pointer.proofs.decode.marked.Statement.{statement}
 use Rattle.pointer.proofs.decode.marked.Tie as tie
 
 abbrev Inv-loop : tie.InvT-loop
-Inv-loop a es served₀ repeated₀ i₀ served repeated i = (i ≤ a) × Marking es i repeated served
+Inv-loop m a served₀ repeated₀ i₀ served repeated i = (i ≤ a) × Marking m i repeated served
 
 abbrev μ-loop : tie.MeasureT-loop
-μ-loop a es served₀ repeated₀ i₀ served repeated i = a - i
+μ-loop m a served₀ repeated₀ i₀ served repeated i = a - i
 
 pub marked-spec : {M : Type 1} → statement M
 marked-spec =
@@ -19,18 +18,14 @@ marked-spec =
     Inv-loop μ-loop
     -- loop-holds
     (λ c. (omega arith, mark-start _))
-    -- mul-p
-    (λ c. omega arith)
-    -- array-read-p
-    (λ c. omega arith)
+    -- entry-at-requires
+    (λ c κs. omega arith)
     -- array-read-b
     (λ c. omega arith)
-    -- cast-repeated
+    -- add-shown
     (λ c. omega arith)
-    -- shr-repeated
-    (λ c. omega arith)
-    -- with-bit-requires
-    (λ c κs. omega arith)
+    -- shown-requires
+    (λ c κs. tt)
     -- array-write-served
     (λ c. omega arith)
     -- add-i
@@ -39,7 +34,7 @@ marked-spec =
     (λ c. omega arith)
     -- loop-again
     (λ c.
-    let l = c .before .before .loop in
-    (omega arith, mark-more (c .before .before .before .args .t1) (l .i) _ _ _ _ (omega arith) (l .inv .1) refl (c .with-bit .ensures)))
+    let l = c .before .before .before .loop in
+    (omega arith, mark-more _ (l .i) (c .before .entry-at .result) _ (l .repeated) (l .served) (c .before .entry-at .ensures) (omega (arith, c .shown .ok)) (c .shown .ensures) (l .inv .1)))
     -- returns
-    (λ c. mark-done (c .before .before .args .t1) (c .before .loop .i) (c .before .before .args .a) _ _ (omega arith) (c .before .loop .inv .1)))
+    (λ c. mark-done _ (c .before .loop .i) (c .before .before .before .args .a) _ _ (omega arith) (c .before .loop .inv .1)))
