@@ -1,23 +1,23 @@
 -- The loop that plans: byte by byte, and from one unserved position to the next. Assumes nothing.
-use mathlib.Core.Path.{_≡_, sym, ap, _∙_}
+use mathlib.Core.Path.{_≡_, sym, ap, subst, _∙_}
 use mathlib.Core.Bool.{Bool, true, false, not, xor, _&&_}
 use mathlib.Core.List.{List, [], _∷_, _++_, append-nil, append-assoc}
 use mathlib.Core.Logic.{_≢_, ⊎-elim}
 use Prim.Native.Nat.{ℕ, suc, _+_, _-_, _*_, _/_, _%_, _^_, _≤_, _<_}
 use native.Mathlib.Omega.{arith}
 use native.Mathlib.Numerals.{add-one}
-use borrow.Author.Tests.{ltb-true, lt-ltb, le-ltb}
+use borrow.Author.Tests.{ltb-true, lt-ltb, le-ltb, le-leb}
 use lib.Bits.{bitAnd, bitXor}
 use lib.Count.{trailingZeros}
-use lib.Dec.{ltb}
-use lib.ListN.{length, getD, take, set, length-set, length-append}
-use lib.Seq.{length-take-le, take-suc-set}
+use lib.Dec.{ltb, leb}
+use lib.ListN.{length, getD, set, length-append}
 use Rattle.bits.specs.Bits.{has, at, Below}
-use Rattle.bits.proofs.TestLaws.{and-left, lt-or-le}
+use Rattle.bits.proofs.TestLaws.{clash, and-in, and-left, lt-or-le}
 use Rattle.bits.proofs.BitLaws.{has-zero, has-high, has-shr, lowest-set, below-lowest}
-use Rattle.pointercalls.specs.Pointer.{positions}
-use Rattle.pointer.specs.Steps.{unservedAt, unservedFrom, Planned}
+use Rattle.pointercalls.specs.Pointer.{positions, renewed}
+use Rattle.pointer.specs.Steps.{unservedAt, unservedFrom, Noted, Planned}
 use Rattle.pointer.proofs.OctetLaws.{bit-unserved}
+use Rattle.pointer.proofs.EncodeLaws.{noted-more}
 use Rattle.pointercalls.proofs.PositionLaws.{positions-take, positions-none, positions-grow}
 
 -- ---- what is found in a byte
@@ -82,63 +82,48 @@ module _ (wanted mask values served : List ℕ) (q x : ℕ) (bits : (k : ℕ) �
         first = λ r l h. in-byte r l (omega arith) ∙ below-lowest 8 x (r - q) (omega arith);
       }
 
--- ---- the loop: es holds the entries l and one for each position below q that passes f
+-- ---- the loop: ds notes the entries l and one for each position below q that passes f, a in all
 
-pub record Planning (n : ℕ) (f : ℕ → Bool) (l es : List ℕ) (a q : ℕ) : Type 0 where
-  pub long : length es ≡ 11
-  pub few : a ≤ n
+pub record Planning (n : ℕ) (wanted : List ℕ) (f : ℕ → Bool) (l ds : List ℕ) (a q : ℕ) : Type 0 where
+  pub few : a ≤ n + 1
   pub reach : q ≤ 512
-  pub taken : take a es ≡ l ++ positions q f
+  pub count : a ≡ length (l ++ positions q f)
+  pub noted : Noted wanted ds (l ++ positions q f)
 
-module _ (n : ℕ) (f : ℕ → Bool) where
-  pub plan-start : (l es : List ℕ) (held : ℕ) → length es ≡ 11 → held ≤ n → take held es ≡ l → Planning n f l es held 0
+module _ (n : ℕ) (wanted : List ℕ) (f : ℕ → Bool) (l : List ℕ) where
+  pub plan-start : (ds : List ℕ) (held : ℕ) → held ≤ n → length l ≡ held → Noted wanted ds l → Planning n wanted f l ds held 0
   unfolding positions
-  plan-start l es held k h e = record { long = k; few = h; reach = omega arith; taken = e ∙ sym (append-nil l) }
+  plan-start ds held h e k =
+      record { few = omega arith; reach = omega arith; count = sym e ∙ ap length (sym (append-nil l)); noted = subst (Noted wanted ds) (sym (append-nil l)) k }
 
-  module _ (most : n ≤ 10) (l es : List ℕ) (a q : ℕ) (c : Planning n f l es a q) where
-    counted : length (l ++ positions q f) ≡ a
-    counted = ap length (sym (c .taken)) ∙ length-take-le a es (omega (arith, c .few, c .long))
+  module _ (ds : List ℕ) (a q : ℕ) (c : Planning n wanted f l ds a q) where
+    -- nothing is found up to r
+    moved : (r : ℕ) → r ≤ 512 → l ++ positions q f ≡ l ++ positions r f → Planning n wanted f l ds a r
+    moved r h e = record { few = c .few; reach = h; count = c .count ∙ ap length e; noted = subst (Noted wanted ds) e (c .noted) }
 
-    pub plan-skip : q < 512 → ((p : ℕ) → q ≤ p → p < 8 * (q / 8) + 8 → f p ≡ false) → Planning n f l es a (8 * (q / 8) + 8)
-    plan-skip h d = record {
-      long = c .long;
-      few = c .few;
-      reach = omega arith;
-      taken = c .taken ∙ ap (λ ps. l ++ ps) (sym (positions-none f q (8 * (q / 8) + 8) (omega arith) d));
-    }
+    pub plan-skip : q < 512 → ((p : ℕ) → q ≤ p → p < 8 * (q / 8) + 8 → f p ≡ false) → Planning n wanted f l ds a (8 * (q / 8) + 8)
+    plan-skip h d = moved (8 * (q / 8) + 8) (omega arith) (ap (λ ps. l ++ ps) (sym (positions-none f q (8 * (q / 8) + 8) (omega arith) d)))
 
-    module _ (p : ℕ) (h : q < 512) (s : Next f q p) where
-      -- the positions up to p are those below q, and p
-      upto : l ++ positions (suc p) f ≡ l ++ positions q f ++ (p ∷ [])
-      upto =
-          ap (λ ps. l ++ ps) (positions-take f p (s .passes) ∙ ap (λ ps. ps ++ (p ∷ [])) (positions-none f q p (s .after) (s .first)))
-          ∙ sym (append-assoc l (positions q f) (p ∷ []))
-
-      pub plan-more : a < n → Planning n f l (set es a p) (a + 1) (p + 1)
-      plan-more k = record {
-        long = length-set es a p ∙ c .long;
-        few = omega arith;
-        reach = omega (arith, s .within);
-        taken =
-            ap (λ x. take x (set es a p)) (add-one a) ∙ take-suc-set es a p (omega (arith, c .long)) ∙ ap (λ ps. ps ++ (p ∷ [])) (c .taken)
-            ∙ sym (ap (λ x. l ++ positions x f) (add-one p) ∙ upto);
-      }
-
-      pub plan-full : n ≤ a → (es′ : List ℕ) → Planned n f l 6 0 es′
-      plan-full k es′ =
-          let u : length (l ++ positions (suc p) f) ≡ a + 1 = ap length upto ∙ length-append (l ++ positions q f) (p ∷ []) ∙ ap (λ x. x + 1) counted in
-          let g : length (positions (suc p) f) ≤ length (positions 512 f) = positions-grow f (suc p) 512 (omega (arith, s .within)) in
-          let o : n < length (l ++ positions 512 f) = omega (arith, length-append l (positions (suc p) f), length-append l (positions 512 f)) in
-          record { judged = rw (lt-ltb n (length (l ++ positions 512 f)) o); few = λ z. absurd (omega arith); planned = λ z. absurd (omega arith); count = λ z. absurd (omega arith) }
-
-    pub plan-done : 512 ≤ q → Planned n f l 0 a es
-    plan-done h =
-        let e : q ≡ 512 = omega (arith, c .reach) in
-        let t : take a es ≡ l ++ positions 512 f = c .taken ∙ ap (λ x. l ++ positions x f) e in
-        let k : a ≡ length (l ++ positions 512 f) = sym (ap (λ x. length (l ++ positions x f)) (sym e) ∙ counted) in
+    pub plan-more : (p v : ℕ) → q < 512 → Next f q p → a ≤ n → n ≤ 10 → v ≡ renewed wanted p → Planning n wanted f l (set ds (a + 1) v) (a + 1) (p + 1)
+    plan-more p v h s k most e =
+        -- the positions up to p are those below q, and p
+        let upto : l ++ positions q f ++ (p ∷ []) ≡ l ++ positions (p + 1) f =
+        append-assoc l (positions q f) (p ∷ [])
+        ∙ ap (λ ps. l ++ ps) (sym (ap (λ x. positions x f) (add-one p) ∙ positions-take f p (s .passes) ∙ ap (λ ps. ps ++ (p ∷ [])) (positions-none f q p (s .after) (s .first)))) in
         record {
-          judged = rw (le-ltb n (length (l ++ positions 512 f)) (omega (arith, c .few)));
-          few = λ _. c .few;
-          planned = λ _. t;
-          count = λ _. k;
+          few = omega arith;
+          reach = omega (arith, s .within);
+          count = sym (ap length (sym upto) ∙ length-append (l ++ positions q f) (p ∷ []) ∙ ap (λ x. x + 1) (sym (c .count)));
+          noted = subst (Noted wanted (set ds (a + 1) v)) upto (noted-more wanted ds (l ++ positions q f) a p v (sym (c .count)) (omega arith) e (c .noted));
         }
+
+    pub plan-done : ltb q 512 && leb a n ≡ false → Planned n wanted f l a ds
+    plan-done t =
+        record {
+          over = λ h. omega (arith, c .count, length-append l (positions q f), length-append l (positions 512 f), positions-grow f q 512 (c .reach));
+          count = λ h. all h .count;
+          noted = λ h. all h .noted;
+        }
+      where
+        all : a ≤ n → Planning n wanted f l ds a 512
+        all h = ⊎-elim (λ k. clash (and-in (lt-ltb q 512 k) (le-leb a n h)) t) (λ k. let e : q ≡ 512 = omega (arith, c .reach) in moved 512 (omega arith) (ap (λ x. l ++ positions x f) e)) (lt-or-le q 512)

@@ -3,10 +3,10 @@ use super::octets::byte;
 use super::octets::shown;
 ghost use mathlib.Core.Path.{_≡_};
 ghost use Prim.Native.Nat.{_≤_};
-ghost use lib.ListN.{length, take};
+ghost use lib.ListN.{length};
 ghost use Rattle.bits.specs.Bits.{list};
-ghost use Rattle.pointercalls.specs.Pointer.{size, entry, active, idle, verdict};
-ghost use Rattle.pointer.specs.Steps.{Marked, Counted, Decoded};
+ghost use Rattle.pointercalls.specs.Pointer.{size, entry, active, idle, measured, verdict};
+ghost use Rattle.pointer.specs.Steps.{Marked, Counted, Decoded, Judged};
 
 // Which entries are active, and the positions that these name.
 pub struct Row {
@@ -15,7 +15,37 @@ pub struct Row {
     pub served: [u8; 64],
 }
 
-pub fn decoded(n: usize, m: &[u8]) -> Row
+// What a call finds in its metadata, where `fixed` says that its other buffers have their lengths.
+pub fn found(n: usize, fixed: bool, m: &[u8]) -> Row
+    ensures { λ r. ⌜ Judged n fixed (now (m .entry)) (r .number) (r .active) (r .served) ⌝ }
+{
+    let k = measured(n, fixed, m.len());
+    if 0 < k {
+        let served = [0u8; 64];
+        return Row {
+            number: k,
+            active: 0,
+            served,
+        };
+    }
+    decoded(n, m)
+}
+
+// The number of entries is judged before the metadata's length is computed from it.
+fn measured(n: usize, fixed: bool, metadata: usize) -> usize
+    ensures { λ r. ⌜ r ≡ measured n fixed metadata ⌝ }
+{
+    if (n < 1) | (10 < n) {
+        return 1;
+    }
+    if fixed & (metadata == (1 + 10 * n + 7) / 8) {
+        0
+    } else {
+        2
+    }
+}
+
+fn decoded(n: usize, m: &[u8]) -> Row
     requires { ⌜ (1 ≤ n) × (n ≤ 10) × (length (now m) ≡ size n) ⌝ }
     ensures { λ r. ⌜ Decoded n (now (m .entry)) (r .number) (r .active) (r .served) ⌝ }
 {
@@ -40,20 +70,6 @@ pub fn entry_at(m: &[u8], e: usize) -> usize
     (v >> (p % 8)) % 1024
 }
 
-// The first a entries, as they stand.
-pub fn load(m: &[u8], a: usize) -> [usize; 11]
-    requires { ⌜ a ≤ 10 ⌝ }
-    ensures { λ r. ⌜ take a r ≡ list a (entry (now (m .entry))) ⌝ }
-{
-    let mut es = [0usize; 11];
-    let mut e = 0;
-    while e < a {
-        es[e] = entry_at(m, e);
-        e += 1;
-    }
-    es
-}
-
 // How many entries are active.
 fn count(n: usize, m: &[u8]) -> usize
     requires { ⌜ (1 ≤ n) × (n ≤ 10) ⌝ }
@@ -66,7 +82,7 @@ fn count(n: usize, m: &[u8]) -> usize
 }
 
 // What entry e holds where it is not active.
-pub fn idle(n: usize, a: usize, e: usize) -> usize
+fn idle(n: usize, a: usize, e: usize) -> usize
     requires { ⌜ (a ≤ 10) × (e ≤ 10) ⌝ }
     ensures { λ r. ⌜ r ≡ idle n a e ⌝ }
 {

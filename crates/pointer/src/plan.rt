@@ -1,20 +1,68 @@
-// Which entries a write needs: those that are active, and one for each unserved position.
-use super::decode::load;
+// What a write is to store: the active entries with their data bits, and one more for each unserved position.
+use super::decode::found;
+use super::encode::counted;
+use super::encode::kept;
+use super::encode::renewed;
 ghost use mathlib.Core.Path.{_≡_};
 ghost use Prim.Native.Nat.{ℕ, _≤_, _<_};
 ghost use lib.ListN.{length};
 ghost use Rattle.bits.specs.Bits.{list, has};
 ghost use Rattle.pointercalls.specs.Pointer.{entry};
-ghost use Rattle.pointer.specs.Steps.{unservedAt, unservedFrom, Planned};
+ghost use Rattle.pointer.specs.Steps.{unservedAt, unservedFrom, Planned, Made};
 
+// The answer, and the metadata's digits where its number is 0.
 pub struct Plan {
     pub number: usize,
     pub active: usize,
-    pub entries: [usize; 11],
+    pub new: usize,
+    pub digits: [usize; 12],
+}
+
+pub fn made(n: usize, data: &[u8], mask: &[u8], values: &[u8], cells: usize, m: &[u8]) -> Plan
+    ensures { λ r. ⌜ Made n (now («data» .entry)) (now (mask .entry)) (now (values .entry)) cells (now (m .entry)) (r .number) (r .active) (r .new) (r .digits) ⌝ }
+{
+    let row = found(
+        n,
+        (data.len() == 64) & (mask.len() == 64) & (values.len() == 64) & (cells == 64),
+        m,
+    );
+    if 0 < row.number {
+        return refused(row.number);
+    }
+    let served = row.served;
+    let all = planned(n, data, mask, values, served, m, row.active);
+    if n < all.active {
+        return refused(6);
+    }
+    let digits = all.digits;
+    Plan {
+        number: 0,
+        active: all.active,
+        new: all.active - row.active,
+        digits: counted(n, digits, all.active),
+    }
+}
+
+fn refused(number: usize) -> Plan
+    ensures { λ r. ⌜ r .number ≡ number ⌝ }
+{
+    let digits = [0usize; 12];
+    Plan {
+        number,
+        active: 0,
+        new: 0,
+        digits,
+    }
+}
+
+// How many entries are needed, n + 1 where they are more than n, and their digits.
+struct Entries {
+    active: usize,
+    digits: [usize; 12],
 }
 
 // Byte by byte, and one turn more for each position found; it ends as soon as there is no entry left.
-pub fn planned(
+fn planned(
     n: usize,
     data: &[u8],
     mask: &[u8],
@@ -22,36 +70,25 @@ pub fn planned(
     served: [u8; 64],
     m: &[u8],
     held: usize,
-) -> Plan
+) -> Entries
     requires { ⌜ (held ≤ n) × (n ≤ 10) × (length (now «data») ≡ 64) × (length (now mask) ≡ 64) × (length (now values) ≡ 64) ⌝ }
-    ensures { λ r. ⌜ Planned n (unservedAt (now («data» .entry)) (now (mask .entry)) (now (values .entry)) served) (list held (entry (now (m .entry)))) (r .number) (r .active) (r .entries) ⌝ }
+    ensures { λ r. ⌜ Planned n (now («data» .entry)) (unservedAt (now («data» .entry)) (now (mask .entry)) (now (values .entry)) served) (list held (entry (now (m .entry)))) (r .active) (r .digits) ⌝ }
 {
-    let mut es = load(m, held);
+    let mut digits = kept(data, m, held);
     let mut a = held;
     let mut q = 0;
-    while q < 512 {
+    while (q < 512) & (a <= n) {
         let rest = left(data, mask, values, served[q / 8], q);
         if rest == 0 {
             q = 8 * (q / 8) + 8;
         } else {
-            if n < a + 1 {
-                return Plan {
-                    number: 6,
-                    active: 0,
-                    entries: es,
-                };
-            }
             let p = q + u8::trailing_zeros(rest) as usize;
-            es[a] = p;
             a += 1;
+            digits[a] = renewed(data, p);
             q = p + 1;
         }
     }
-    Plan {
-        number: 0,
-        active: a,
-        entries: es,
-    }
+    Entries { active: a, digits }
 }
 
 // What is unserved in q's byte from q on, where the byte of served positions is given.

@@ -1,8 +1,8 @@
--- `write` refuses what is not measured right. Assumes nothing.
-use mathlib.Core.Path.{_≡_, sym, _∙_}
+-- `write` stores what was worked out. Assumes nothing.
+use mathlib.Core.Path.{_≡_}
 use borrow.Author.Needs.{needs}
 use native.Mathlib.Omega.{arith}
-use Rattle.pointer.proofs.RowLaws.{write-unmeasured, write-sized}
+use Rattle.pointer.proofs.RowLaws.{write-refusal, write-small, write-made}
 use Rattle.pointer.proofs.write.Statement.{statement}
 use Rattle.pointer.proofs.write.Tie as tie
 
@@ -10,18 +10,19 @@ pub write-spec : {M : Type 1} → statement M
 write-spec =
     tie.close
     (tie.spec
-    -- measured-requires
+    -- made-requires
     (λ c κs. search needs)
-    -- returns
-    (λ c. write-unmeasured _ _ _ _ _ _ _ (c .before .measured .ensures) (omega arith))
-    -- write-row-requires
-    (λ c κs.
-    let m = c .before .before .before .measured in
-    let z : m .result ≡ 0 = omega arith in
-    write-sized _ _ _ _ _ _ (sym (m .ensures) ∙ z))
     -- same-length
     (λ c. search needs)
+    -- returns
+    (λ c. write-refusal _ _ _ _ _ _ _ _ _ _ (c .before .before .made .ensures) (omega arith))
+    -- store-requires
+    (λ c κs. let s = c .before .before .before .before .made .ensures .sized (omega arith) in (s .wants, s .masks, s .holds, s .stores))
+    -- store-requires-2
+    (λ c κs. write-small _ _ _ _ (c .before .before .before .before .before .before .before .before .before .before .before .before .before .before .before .args .cells .now) _ _ _ _ _ (c .before .before .before .before .before .before .before .before .made .ensures) (omega arith))
     -- same-length-2
     (λ c. search needs)
+    -- same-length-3
+    (λ c. search needs)
     -- returns-2
-    (λ c. search needs))
+    (λ c. write-made _ _ _ _ _ _ _ _ _ _ (c .before .before .before .before .before .before .before .before .before .before .before .made .ensures) (omega arith) _ _ (λ i. c .before .before .before .before .before .before .before .before .before .before .before .before .before .before .before .before .before .shared-slice-known .given i .fits) (c .before .before .before .before .before .before .store .ensures) (c .before .before .store2 .ensures)))

@@ -1,19 +1,31 @@
 -- `planned` goes from one unserved position to the next. Assumes nothing.
-use Prim.Native.Nat.{_+_, _-_}
+use Prim.Native.Nat.{_+_, _-_, _≤_, _<_}
+use borrow.Author.Tests.{ltb-true, leb-true}
 use lib.Count.{trailingZeros}
+use lib.Dec.{ltb, leb}
 use native.Mathlib.Omega.{arith}
 use Rattle.bits.specs.Bits.{list}
+use Rattle.bits.proofs.TestLaws.{and-left, and-right}
+use Rattle.bits.proofs.BoundLaws.{length-list}
 use Rattle.pointercalls.specs.Pointer.{entry}
 use Rattle.pointer.specs.Steps.{unservedAt}
-use Rattle.pointer.proofs.PlanLaws.{Planning, Next, none-left, next-is, plan-start, plan-skip, plan-more, plan-full, plan-done}
+use Rattle.pointer.proofs.PlanLaws.{Planning, Next, none-left, next-is, plan-start, plan-skip, plan-more, plan-done}
 use Rattle.pointer.proofs.plan.planned.Statement.{statement}
 use Rattle.pointer.proofs.plan.planned.Tie as tie
 
 abbrev Inv-loop : tie.InvT-loop
-Inv-loop n «data» mask values m held served es₀ a₀ q₀ es a q = Planning n (unservedAt «data» mask values served) (list held (entry m)) es a q
+Inv-loop n «data» mask values m held served digits₀ a₀ q₀ digits a q = Planning n «data» (unservedAt «data» mask values served) (list held (entry m)) digits a q
 
 abbrev μ-loop : tie.MeasureT-loop
-μ-loop n «data» mask values m held served es₀ a₀ q₀ es a q = 512 - q
+μ-loop n «data» mask values m held served digits₀ a₀ q₀ digits a q = 512 - q
+
+-- what the loop's test says
+room : (c : tie.In-loop Inv-loop μ-loop) → let l = c .before .loop in (l .q < 512) × (l .a ≤ c .before .before .before .before .before .before .before .args .n)
+room c =
+    let q = c .before .loop .q in
+    let a = c .before .loop .a in
+    let n = c .before .before .before .before .before .before .before .args .n in
+    (ltb-true q 512 (and-left (ltb q 512) (leb a n) (c .loop-test .taken)), leb-true a n (and-right (ltb q 512) (leb a n) (c .loop-test .taken)))
 
 -- where something is left of the byte, the next unserved position
 next : (c : tie.Else1 Inv-loop μ-loop) → let g = c .before .before .before .before .before .before .before .before .before .args in let q = c .before .before .before .loop .q in
@@ -27,44 +39,44 @@ planned-spec =
     tie.close
     (tie.spec
     Inv-loop μ-loop
-    -- load-requires
+    -- kept-requires
     (λ c κs. omega arith)
     -- loop-holds
-    (λ c. plan-start _ _ _ _ _ (omega arith) (omega arith) (c .load .ensures))
+    (λ c. let g = c .before .before .before .before .before .args in plan-start _ _ _ _ _ (g .held) (omega arith) (length-list (g .held) (entry (g .m .now))) (c .kept .ensures))
     -- array-read-left
-    (λ c. omega arith)
+    (λ c. omega (arith, room c .0))
     -- left-requires
-    (λ c κs. omega arith)
+    (λ c κs. omega (arith, room c .0))
     -- mul-q
-    (λ c. omega arith)
+    (λ c. omega (arith, room (c .before .before) .0))
     -- add-q
-    (λ c. omega arith)
+    (λ c. omega (arith, room (c .before .before) .0))
     -- loop-less
-    (λ c. omega arith)
+    (λ c. omega (arith, room (c .before .before) .0))
     -- loop-again
     (λ c.
     let g = c .before .before .before .before .before .before .before .before .before .args in
     let l = c .before .before .before .loop in
-    plan-skip _ _ (omega arith) _ _ _ (l .q) (l .inv) (omega arith) (none-left (g .«data» .now) (g .mask .now) (g .values .now) (g .t5) (l .q) _ (c .before .left .ensures) (c .if1 .taken)))
-    -- add-if2
-    (λ c. omega arith)
-    -- returns
-    (λ c. plan-full _ _ (omega arith) _ _ _ _ (c .before .before .before .before .loop .inv) _ (omega arith) (next (c .before)) (omega arith) _)
+    plan-skip _ _ _ _ _ _ (l .q) (l .inv) (room (c .before .before) .0) (none-left (g .«data» .now) (g .mask .now) (g .values .now) (g .t5) (l .q) _ (c .before .left .ensures) (c .if1 .taken)))
     -- cast-p
-    (λ c. omega (arith, next (c .before) .within))
+    (λ c. omega (arith, next c .within, room (c .before .before) .0))
     -- add-p
-    (λ c. omega (arith, next (c .before) .within))
-    -- mul-es
-    (λ c. omega arith)
-    -- array-write-es
-    (λ c. omega arith)
+    (λ c. omega (arith, next c .within, room (c .before .before) .0))
     -- add-a
-    (λ c. omega arith)
+    (λ c. omega (arith, room (c .before .before) .1))
+    -- renewed-requires
+    (λ c κs. tt)
+    -- mul-digits
+    (λ c. omega (arith, room (c .before .before .before) .1))
+    -- array-write-digits
+    (λ c. omega (arith, room (c .before .before .before) .1, c .before .before .before .before .loop .inv .noted .long))
     -- add-q-2
-    (λ c. omega (arith, next (c .before) .within))
+    (λ c. omega (arith, next (c .before) .within, room (c .before .before .before) .0))
     -- loop-less-2
-    (λ c. omega arith)
+    (λ c. omega (arith, room (c .before .before .before) .0))
     -- loop-again-2
-    (λ c. plan-more _ _ (omega arith) _ _ _ _ (c .before .before .before .before .loop .inv) _ (omega arith) (next (c .before)) (omega arith))
-    -- returns-2
-    (λ c. plan-done _ _ (omega arith) _ _ _ _ (c .before .loop .inv) (omega arith)))
+    (λ c.
+    let l = c .before .before .before .before .loop in
+    plan-more _ _ _ _ (l .digits) (l .a) (l .q) (l .inv) _ _ (room (c .before .before .before) .0) (next (c .before)) (room (c .before .before .before) .1) (omega arith) (c .renewed .ensures))
+    -- returns
+    (λ c. plan-done _ _ _ _ _ _ _ (c .before .loop .inv) (c .loop-test .left)))
