@@ -4,6 +4,7 @@ use mathlib.Core.Bool.{cond}
 use mathlib.Core.List.{List}
 use Prim.Native.Nat.{ℕ, _+_, _*_, _/_, _%_, _<_}
 use native.Mathlib.Omega.{arith}
+use lib.Bits.{bitAnd, bitXor, and-le-l, xor-lt}
 use lib.Dec.{eqb}
 use lib.ListN.{length, getD, take, set, length-set}
 use Rattle.bits.specs.Bits.{has, at, bytes, list, Below}
@@ -12,7 +13,7 @@ use Rattle.bits.proofs.BitLaws.{is-word}
 use Rattle.bits.proofs.ByteLaws.{below-set, at-byte, is-bytes, bytes-more}
 use Rattle.pointercalls.specs.Pointer.{pointer, replacement, entry, shown, stored}
 use Rattle.pointercalls.proofs.EntryLaws.{shown-snoc}
-use Rattle.pointer.proofs.OctetLaws.{at-changed, one-more}
+use Rattle.pointer.proofs.OctetLaws.{bit-chosen, at-changed, one-more}
 
 pub copy-done : (j : ℕ) (cells out : List ℕ) → length cells ≡ 64 → length out ≡ 64 → j ≡ 64 → take j out ≡ list j (λ i. getD cells i 0) → out ≡ cells
 copy-done j cells out l k e h = list-done j 64 (λ i. getD cells i 0) out k e h ∙ sym (list-getD 64 (λ i. getD cells i 0) 0 cells l (λ i _. refl))
@@ -45,10 +46,12 @@ module _ (cells m : List ℕ) where
       is-bytes 64 (λ q. shown (list a (entry m)) q (at cells q)) out (p .long) (p .below) (λ q _. p .bits q ∙ ap (λ x. shown (list x (entry m)) q (at cells q)) e)
 
 -- one byte of cells more
-pub store-more : (wanted mask values cells : List ℕ) (j v : ℕ) → j < length cells → v < 256
-    → ((k : ℕ) → has v k ≡ cond (has (getD mask j 0) k) (has (getD values j 0) k) (has (getD wanted j 0) k))
+pub store-more : (wanted mask values cells : List ℕ) (j : ℕ) → let v = bitXor (getD wanted j 0) (bitAnd (getD mask j 0) (bitXor (getD wanted j 0) (getD values j 0))) in Below 256 wanted → Below 256 mask → j < length cells
     → take j cells ≡ bytes j (stored wanted mask values) → take (j + 1) (set cells j v) ≡ bytes (j + 1) (stored wanted mask values)
 unfolding stored
-store-more wanted mask values cells j v l f h e =
+store-more wanted mask values cells j b c l e =
+    let v : ℕ = bitXor (getD wanted j 0) (bitAnd (getD mask j 0) (bitXor (getD wanted j 0) (getD values j 0))) in
+    let f : v < 256 = xor-lt 8 (getD wanted j 0) _ (b j) (omega (arith, c j, and-le-l (getD mask j 0) (bitXor (getD wanted j 0) (getD values j 0)))) in
     bytes-more j (stored wanted mask values) v cells l e
-    (is-word 8 v (λ k. stored wanted mask values (8 * j + k)) f (λ k q. h k ∙ sym (rw (at-byte mask j k q, at-byte values j k q, at-byte wanted j k q))))
+    (is-word 8 v (λ k. stored wanted mask values (8 * j + k)) f
+    (λ k q. bit-chosen (getD wanted j 0) (getD mask j 0) (getD values j 0) k ∙ sym (rw (at-byte mask j k q, at-byte values j k q, at-byte wanted j k q))))

@@ -1,5 +1,5 @@
 -- The steps of decoding: an entry from three bytes, the count, the test of the other entries, and the positions that entries name. Assumes nothing.
-use mathlib.Core.Path.{_≡_, refl, sym, ap, ap₂, _∙_}
+use mathlib.Core.Path.{_≡_, refl, sym, ap, ap₂, subst, _∙_}
 use mathlib.Core.Bool.{Bool, true, false, not, cond, _&&_, _||_}
 use mathlib.Core.List.{List, [], _∷_, _++_}
 use mathlib.Core.Logic.{_≢_, ⊎-elim}
@@ -18,7 +18,7 @@ use Rattle.bits.proofs.BitLaws.{has-low, has-ext, one-shl, ones-bits}
 use Rattle.bits.proofs.ByteLaws.{getD-zeros, at-zeros, below-set}
 use Rattle.bits.proofs.DigitLaws.{window-bit}
 use Rattle.pointercalls.specs.Pointer.{size, pointer, replacement, entry, spare, active, unary, idle, formed, held, names, repeats, verdict}
-use Rattle.pointer.specs.Steps.{Marked, Counted, Decoded}
+use Rattle.pointer.specs.Steps.{Marked, Counted}
 use Rattle.pointercalls.proofs.EntryLaws.{names-snoc, repeats-snoc}
 use Rattle.pointercalls.proofs.MetadataLaws.{has-entry, entry-lt, unary-ones, active-full, active-unary}
 use Rattle.pointercalls.proofs.CodecLaws.{spare-entry}
@@ -71,6 +71,10 @@ count-part n m x last h o l e =
 
 -- ---- what is wrong with the entries
 
+-- downwards, one more
+pub above-more : (P : ℕ → Type 0) (n e : ℕ) → ((k : ℕ) → e ≤ k → k < n → P k) → P (e - 1) → (k : ℕ) → e - 1 ≤ k → k < n → P k
+above-more P n e f p k l h = ⊎-elim (λ b. let i : e - 1 ≡ k = omega arith in subst P i p) (λ b. f k b h) (lt-or-le k e)
+
 module _ (n : ℕ) (m : List ℕ) (a : ℕ) (repeated : Bool) (c : Counted n m a repeated) where
   -- entry k is not active and does not hold what it should
   abbrev stray : ℕ → Bool
@@ -95,13 +99,13 @@ module _ (n : ℕ) (m : List ℕ) (a : ℕ) (repeated : Bool) (c : Counted n m a
         verdict-tests n m false false _ unspared
         (sym (ap not (some-in n stray e k (and-in (le-leb a e l) (ap not (ne-eqb (entry m e) (idle n a e) d))))) ∙ well) refl
 
-    pub judged-formed : (e : ℕ) → n ≤ e → ((k : ℕ) → k < e → a ≤ k → entry m k ≡ idle n a k) → (t : Bool) → repeated ≡ t → cond t 5 0 ≡ verdict n m
-    judged-formed e l i t r =
+    pub judged-formed : ((k : ℕ) → a ≤ k → k < n → entry m k ≡ idle n a k) → (t : Bool) → repeated ≡ t → cond t 5 0 ≡ verdict n m
+    judged-formed i t r =
         verdict-tests n m false true t unspared
         (sym
         (ap not
         (some-none n stray (λ k q.
-        ⊎-elim (λ d. rw (lt-leb a k d)) (λ d. rw (le-leb a k d, i k (omega arith) d, eqb-same (idle n a k))) (lt-or-le k a)))) ∙ well) (sym r ∙ c .twice)
+        ⊎-elim (λ d. rw (lt-leb a k d)) (λ d. rw (le-leb a k d, i k d q, eqb-same (idle n a k))) (lt-or-le k a)))) ∙ well) (sym r ∙ c .twice)
 
 -- ---- the positions that the entries name
 
@@ -146,8 +150,8 @@ module _ (n : ℕ) (m : List ℕ) (a : ℕ) (c : a ≡ active n m) (l : a ≤ n)
   unfolding held
   is-held = ap (λ x. list x (entry m)) c
 
-  pub counted : 1 ≤ n → n ≤ 10 → length m ≡ size n → Counted n m a repeated
-  counted least most long = record { least = least; most = most; long = long; count = c; few = l; twice = p .twice ∙ ap repeats is-held }
+  pub counted : (1 ≤ n) × (n ≤ 10) × (length m ≡ size n) → Counted n m a repeated
+  counted s = record { least = s .0; most = s .1; long = s .2; count = c; few = l; twice = p .twice ∙ ap repeats is-held }
 
-  pub decoded : (k : ℕ) → k ≡ verdict n m → Decoded n m k a served
-  decoded k h = record { judged = h; count = c; few = l; bits = λ q. p .bits q ∙ ap (λ l. names l q) is-held }
+  pub named : (q : ℕ) → at served q ≡ names (held n m) q
+  named q = p .bits q ∙ ap (λ l. names l q) is-held

@@ -12,12 +12,13 @@ use Rattle.bits.specs.Bits.{list, at, bytes, Below}
 use Rattle.bits.proofs.TestLaws.{and-left, and-right, or-out, or-neither}
 use Rattle.pointercalls.specs.Pointer.{size, entry, active, held, names, shown, unserved, positions, renewed, after, activeAfter, stored, orElse, measured, verdict, readNumber, needed, writeJudged, writeNumber}
 use Rattle.pointercalls.specs.Promises.{Read, Write}
-use Rattle.pointer.specs.Steps.{digit, digitBit, Digits, Sized, Decoded, Judged, unservedAt, Planned, Made}
+use Rattle.pointer.specs.Steps.{digit, digitBit, Digits, Sized, Marked, Judged, unservedAt, Planned, Made}
 use Rattle.pointercalls.proofs.PositionLaws.{length-positions, positions-ext}
 use Rattle.pointercalls.proofs.MetadataLaws.{length-held}
 use Rattle.pointercalls.proofs.NumberLaws.{measured-low, measured-high, measured-in, measured-zero}
 use Rattle.pointercalls.proofs.AfterLaws.{after-below}
 use Rattle.pointercalls.proofs.Demands.{read-refused, read-accepted, write-refused, write-accepted}
+use Rattle.pointer.proofs.DecodeLaws.{named}
 use Rattle.pointer.proofs.EncodeLaws.{digits-below, encoded}
 
 -- ---- n, the lengths and the metadata
@@ -46,12 +47,12 @@ module _ (n : ℕ) (fixed : Bool) (m : List ℕ) (j : ℕ) (e : j ≡ measured n
   pub row-sized : j ≡ 0 → (1 ≤ n) × (n ≤ 10) × (length m ≡ size n)
   row-sized z = let s = measured-zero n fixed (length m) (sym e ∙ z) in (s .least, s .most, s .long)
 
-  pub row-decoded : j ≡ 0 → (k a : ℕ) (served : List ℕ) → Decoded n m k a served → Judged n fixed m k a served
-  row-decoded z k a served d =
+  pub row-decoded : j ≡ 0 → (k a : ℕ) (repeated : Bool) (served : List ℕ) → a ≡ active n m → a ≤ n → Marked (list a (entry m)) repeated served → k ≡ verdict n m → Judged n fixed m k a served
+  row-decoded z k a repeated served c l p h =
       let s = measured-zero n fixed (length m) (sym e ∙ z) in
       record {
-        judged = d .judged ∙ ap (λ x. orElse x (verdict n m)) (sym z) ∙ judges;
-        found = λ _. record { least = s .least; most = s .most; sized = s .sized; long = s .long; count = d .count; few = d .few; bits = d .bits };
+        judged = h ∙ ap (λ x. orElse x (verdict n m)) (sym z) ∙ judges;
+        found = λ _. record { least = s .least; most = s .most; sized = s .sized; long = s .long; count = c; few = l; bits = named n m a c l repeated served p };
       }
 
 -- ---- a read
@@ -79,10 +80,10 @@ module _ (n : ℕ) (wanted mask values : List ℕ) (cells : ℕ) (m : List ℕ) 
   made-refused : (k b c : ℕ) (ds : List ℕ) → k ≡ writeNumber n wanted mask values cells m → 0 < k → Made n wanted mask values cells m k b c ds
   made-refused k b c ds e h = record { judged = e; sized = λ z. absurd (omega arith); count = λ z. absurd (omega arith); adds = λ z. absurd (omega arith); digits = λ z. absurd (omega arith) }
 
-  module _ (k a : ℕ) (served : List ℕ) (d : Judged n (eqb (length wanted) 64 && eqb (length mask) 64 && eqb (length values) 64 && eqb cells 64) m k a served) where
+  module _ (fixed : Bool) (u : fixed ≡ eqb (length wanted) 64 && eqb (length mask) 64 && eqb (length values) 64 && eqb cells 64) (k a : ℕ) (served : List ℕ) (d : Judged n fixed m k a served) where
     write-judges : writeJudged n wanted mask values cells m ≡ k
     unfolding writeJudged
-    write-judges = sym (d .judged)
+    write-judges = sym (d .judged ∙ ap (λ t. orElse (measured n t (length m)) (verdict n m)) u)
 
     pub made-judged : 0 < k → (x b c : ℕ) (ds : List ℕ) → x ≡ k → Made n wanted mask values cells m x b c ds
     unfolding writeNumber
@@ -96,7 +97,8 @@ module _ (n : ℕ) (wanted mask values : List ℕ) (cells : ℕ) (m : List ℕ) 
           let k : Bool = eqb (length mask) 64 in
           let v : Bool = eqb (length values) 64 in
           let c : Bool = eqb cells 64 in
-          let wkv : w && k && v ≡ true = and-left (w && k && v) c (f .sized) in
+          let all : w && k && v && c ≡ true = sym u ∙ f .sized in
+          let wkv : w && k && v ≡ true = and-left (w && k && v) c all in
           let wk : w && k ≡ true = and-left (w && k) v wkv in
           record {
             least = f .least;
@@ -104,7 +106,7 @@ module _ (n : ℕ) (wanted mask values : List ℕ) (cells : ℕ) (m : List ℕ) 
             wants = eqb-true (length wanted) 64 (and-left w k wk);
             masks = eqb-true (length mask) 64 (and-right w k wk);
             holds = eqb-true (length values) 64 (and-right (w && k) v wkv);
-            stores = eqb-true cells 64 (and-right (w && k && v) c (f .sized));
+            stores = eqb-true cells 64 (and-right (w && k && v) c all);
             notes = f .long;
           }
 

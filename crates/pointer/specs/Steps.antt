@@ -52,13 +52,6 @@ pub record Counted (n : ℕ) (m : List ℕ) (a : ℕ) (repeated : Bool) : Type 0
   pub few : a ≤ n
   pub twice : repeated ≡ repeats (held n m)
 
--- what is found in the metadata m
-pub record Decoded (n : ℕ) (m : List ℕ) (number a : ℕ) (served : List ℕ) : Type 0 where
-  pub judged : number ≡ verdict n m
-  pub count : a ≡ active n m
-  pub few : a ≤ n
-  pub bits : (p : ℕ) → at served p ≡ names (held n m) p
-
 -- what a call finds in the metadata m that it accepts
 pub record Found (n : ℕ) (fixed : Bool) (m : List ℕ) (a : ℕ) (served : List ℕ) : Type 0 where
   pub least : 1 ≤ n

@@ -2,10 +2,9 @@
 use super::decode::entry_at;
 use super::octets::shown;
 ghost use mathlib.Core.Path.{_≡_};
-ghost use mathlib.Core.Bool.{cond};
-ghost use Prim.Native.Nat.{ℕ, _≤_};
+ghost use Prim.Native.Nat.{_≤_};
 ghost use lib.ListN.{length};
-ghost use Rattle.bits.specs.Bits.{list, has, at, bytes};
+ghost use Rattle.bits.specs.Bits.{list, at, bytes};
 ghost use Rattle.pointercalls.specs.Pointer.{entry, shown, stored};
 
 pub fn copy(cells: &[u8], out: &mut [u8])
@@ -33,20 +32,15 @@ pub fn patch(out: &mut [u8], m: &[u8], a: usize)
     }
 }
 
+// The stuck cells hold their values, the others the wanted bits.
 pub fn store(data: &[u8], mask: &[u8], values: &[u8], cells: &mut [u8])
     requires { ⌜ (length (now «data») ≡ 64) × (length (now mask) ≡ 64) × (length (now values) ≡ 64) × (length (now cells) ≡ 64) ⌝ }
     ensures { λ _. ⌜ now (cells .exit) ≡ bytes 64 (stored (now («data» .entry)) (now (mask .entry)) (now (values .entry))) ⌝ }
 {
     let mut j = 0;
     while j < 64 {
-        cells[j] = held(data[j], mask[j], values[j]);
+        let wanted = data[j];
+        cells[j] = wanted ^ (mask[j] & (wanted ^ values[j]));
         j += 1;
     }
-}
-
-// One byte of cells: the stuck ones hold their values, the others the wanted bits.
-fn held(wanted: u8, mask: u8, value: u8) -> u8
-    ensures { λ r. ⌜ ((k : ℕ) → has r k ≡ cond (has mask k) (has value k) (has wanted k)) ⌝ }
-{
-    wanted ^ (mask & (wanted ^ value))
 }

@@ -3,10 +3,9 @@ use super::octets::byte;
 use super::octets::shown;
 ghost use mathlib.Core.Path.{_≡_};
 ghost use Prim.Native.Nat.{_≤_};
-ghost use lib.ListN.{length};
 ghost use Rattle.bits.specs.Bits.{list};
-ghost use Rattle.pointercalls.specs.Pointer.{size, entry, active, idle, measured, verdict};
-ghost use Rattle.pointer.specs.Steps.{Marked, Counted, Decoded, Judged};
+ghost use Rattle.pointercalls.specs.Pointer.{entry, active, measured, verdict};
+ghost use Rattle.pointer.specs.Steps.{Marked, Counted, Judged};
 
 // Which entries are active, and the positions that these name.
 pub struct Row {
@@ -28,7 +27,14 @@ pub fn found(n: usize, fixed: bool, m: &[u8]) -> Row
             served,
         };
     }
-    decoded(n, m)
+    let a = count(n, m);
+    let marks = marked(m, a);
+    let served = marks.served;
+    Row {
+        number: judged(n, m, a, marks.repeated),
+        active: a,
+        served,
+    }
 }
 
 // The number of entries is judged before the metadata's length is computed from it.
@@ -42,20 +48,6 @@ fn measured(n: usize, fixed: bool, metadata: usize) -> usize
         0
     } else {
         2
-    }
-}
-
-fn decoded(n: usize, m: &[u8]) -> Row
-    requires { ⌜ (1 ≤ n) × (n ≤ 10) × (length (now m) ≡ size n) ⌝ }
-    ensures { λ r. ⌜ Decoded n (now (m .entry)) (r .number) (r .active) (r .served) ⌝ }
-{
-    let a = count(n, m);
-    let marks = marked(m, a);
-    let served = marks.served;
-    Row {
-        number: judged(n, m, a, marks.repeated),
-        active: a,
-        served,
     }
 }
 
@@ -81,18 +73,8 @@ fn count(n: usize, m: &[u8]) -> usize
     usize::count_ones(entry_at(m, n - 1) % (1 << (n - 1))) as usize
 }
 
-// What entry e holds where it is not active.
-fn idle(n: usize, a: usize, e: usize) -> usize
-    requires { ⌜ (a ≤ 10) × (e ≤ 10) ⌝ }
-    ensures { λ r. ⌜ r ≡ idle n a e ⌝ }
-{
-    if e + 1 == n {
-        return (1 << a) - 1;
-    }
-    0
-}
-
-// What is wrong with the entries: the spare bits are read as if they were one more.
+// What is wrong with the entries: the spare bits are read as if they were one more. From the last down to the first that is not active,
+// the last is to hold the count and the others nothing.
 fn judged(n: usize, m: &[u8], a: usize, repeated: bool) -> usize
     requires { ⌜ Counted n (now m) a repeated ⌝ }
     ensures { λ r. ⌜ r ≡ verdict n (now (m .entry)) ⌝ }
@@ -100,12 +82,14 @@ fn judged(n: usize, m: &[u8], a: usize, repeated: bool) -> usize
     if entry_at(m, n) != 0 {
         return 3;
     }
-    let mut e = a;
-    while e < n {
-        if entry_at(m, e) != idle(n, a, e) {
+    let mut idle = (1 << a) - 1;
+    let mut e = n;
+    while a < e {
+        e -= 1;
+        if entry_at(m, e) != idle {
             return 4;
         }
-        e += 1;
+        idle = 0;
     }
     if repeated { 5 } else { 0 }
 }

@@ -4,7 +4,9 @@ use super::encode::counted;
 use super::encode::kept;
 use super::encode::renewed;
 ghost use mathlib.Core.Path.{_≡_};
+ghost use mathlib.Core.Bool.{_&&_};
 ghost use Prim.Native.Nat.{ℕ, _≤_, _<_};
+ghost use lib.Dec.{eqb};
 ghost use lib.ListN.{length};
 ghost use Rattle.bits.specs.Bits.{list, has};
 ghost use Rattle.pointercalls.specs.Pointer.{entry};
@@ -21,11 +23,7 @@ pub struct Plan {
 pub fn made(n: usize, data: &[u8], mask: &[u8], values: &[u8], cells: usize, m: &[u8]) -> Plan
     ensures { λ r. ⌜ Made n (now («data» .entry)) (now (mask .entry)) (now (values .entry)) cells (now (m .entry)) (r .number) (r .active) (r .new) (r .digits) ⌝ }
 {
-    let row = found(
-        n,
-        (data.len() == 64) & (mask.len() == 64) & (values.len() == 64) & (cells == 64),
-        m,
-    );
+    let row = found(n, sized(data.len(), mask.len(), values.len(), cells), m);
     if 0 < row.number {
         return refused(row.number);
     }
@@ -41,6 +39,12 @@ pub fn made(n: usize, data: &[u8], mask: &[u8], values: &[u8], cells: usize, m: 
         new: all.active - row.active,
         digits: counted(n, digits, all.active),
     }
+}
+
+fn sized(data: usize, mask: usize, values: usize, cells: usize) -> bool
+    ensures { λ r. ⌜ r ≡ eqb «data» 64 && eqb mask 64 && eqb values 64 && eqb cells 64 ⌝ }
+{
+    (data == 64) & (mask == 64) & (values == 64) & (cells == 64)
 }
 
 fn refused(number: usize) -> Plan

@@ -23,14 +23,12 @@ store-spec =
     Inv-loop μ-loop
     -- loop-holds
     (λ c. (omega arith, omega arith, unfold list words bytes in refl))
-    -- shared-slice-read-held
+    -- shared-slice-read-wanted
     (λ c. omega arith)
-    -- shared-slice-read-held-2
+    -- shared-slice-read-cells
     (λ c. omega arith)
-    -- shared-slice-read-held-3
+    -- shared-slice-read-cells-2
     (λ c. omega arith)
-    -- held-requires
-    (λ c κs. tt)
     -- slice-write-cells
     (λ c. omega arith)
     -- add-j
@@ -39,8 +37,8 @@ store-spec =
     (λ c. omega arith)
     -- loop-again
     (λ c.
-    let i = c .before .before .before .before .before .loop .inv in
-    (simp length-set (i .0), omega arith, store-more _ _ _ _ _ _ (omega arith) (omega (arith, c .held .ok)) (c .held .ensures) (i .2)))
+    let i = c .before .before .before .before .loop .inv in
+    (simp length-set (i .0), omega arith, store-more _ _ _ _ _ (λ i. c .before .before .shared-slice-known .given i .fits) (λ i. c .before .shared-slice-known2 .given i .fits) (omega arith) (i .2)))
     -- same-length
     (λ c. omega arith)
     -- returns

@@ -1,7 +1,8 @@
--- `found` refuses what is not measured right, and decodes the rest. Assumes nothing.
+-- `found` refuses what is not measured right, and reads the rest. Assumes nothing.
 use mathlib.Core.Path.{_≡_}
 use borrow.Author.Needs.{needs}
 use native.Mathlib.Omega.{arith}
+use Rattle.pointer.proofs.DecodeLaws.{counted}
 use Rattle.pointer.proofs.RowLaws.{row-unmeasured, row-sized, row-decoded}
 use Rattle.pointer.proofs.decode.found.Statement.{statement}
 use Rattle.pointer.proofs.decode.found.Tie as tie
@@ -14,7 +15,11 @@ found-spec =
     (λ c κs. search needs)
     -- returns
     (λ c. row-unmeasured _ _ _ _ (c .before .measured .ensures) (omega arith) _)
-    -- decoded-requires
-    (λ c κs. row-sized _ _ (c .before .before .before .args .m .now) _ (c .before .measured .ensures) (omega arith))
+    -- count-requires
+    (λ c κs. let s = row-sized _ _ (c .before .before .before .args .m .now) _ (c .before .measured .ensures) (omega arith) in (s .0, s .1))
+    -- marked-requires
+    (λ c κs. let s = row-sized _ _ (c .before .before .before .before .args .m .now) _ (c .before .before .measured .ensures) (omega arith) in omega (arith, s .1, c .count .ensures .1))
+    -- judged-requires
+    (λ c κs. let a = c .before .before .count .ensures in counted _ _ _ (a .0) (a .1) _ _ (c .before .marked .ensures) (row-sized _ _ (c .before .before .before .before .before .before .args .m .now) _ (c .before .before .before .before .measured .ensures) (omega arith)))
     -- returns-2
-    (λ c. row-decoded _ _ _ _ (c .before .before .measured .ensures) (omega arith) _ _ _ (c .decoded .ensures)))
+    (λ c. let a = c .before .before .before .count .ensures in row-decoded _ _ _ _ (c .before .before .before .before .before .measured .ensures) (omega arith) _ _ _ _ (a .0) (a .1) (c .before .before .marked .ensures) (c .judged .ensures)))
