@@ -1,5 +1,5 @@
 -- The loops over the cells of a row: copying, setting the bits of entries, and storing. Assumes nothing.
-use mathlib.Core.Path.{_≡_, refl, sym, ap, _∙_}
+use mathlib.Core.Path.{_≡_, refl, sym, ap, subst, _∙_}
 use mathlib.Core.Bool.{cond}
 use mathlib.Core.List.{List}
 use Prim.Native.Nat.{ℕ, _+_, _*_, _/_, _%_, _<_}
@@ -25,9 +25,9 @@ pub record Patching (cells m out : List ℕ) (i : ℕ) : Type 0 where
   pub below : Below 256 out
 
 module _ (cells m : List ℕ) where
-  pub patch-start : length cells ≡ 64 → Below 256 cells → Patching cells m cells 0
+  pub patch-start : (out : List ℕ) → length cells ≡ 64 → Below 256 cells → out ≡ cells → Patching cells m out 0
   unfolding shown list
-  patch-start l b = record { long = l; bits = λ q. refl; below = b }
+  patch-start out l b e = subst (λ x. Patching cells m x 0) (sym e) (record { long = l; bits = λ q. refl; below = b })
 
   pub patch-more : (out : List ℕ) (i e v : ℕ) → e ≡ entry m i → v < 256 → ((j : ℕ) → has v j ≡ cond (eqb (pointer e % 8) j) (replacement e) (has (getD out (pointer e / 8) 0) j))
       → Patching cells m out i → Patching cells m (set out (pointer e / 8) v) (i + 1)

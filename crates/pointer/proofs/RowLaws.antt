@@ -80,14 +80,14 @@ module _ (n : ℕ) (wanted mask values : List ℕ) (cells : ℕ) (m : List ℕ) 
   made-refused : (k b c : ℕ) (ds : List ℕ) → k ≡ writeNumber n wanted mask values cells m → 0 < k → Made n wanted mask values cells m k b c ds
   made-refused k b c ds e h = record { judged = e; sized = λ z. absurd (omega arith); count = λ z. absurd (omega arith); adds = λ z. absurd (omega arith); digits = λ z. absurd (omega arith) }
 
-  module _ (fixed : Bool) (u : fixed ≡ eqb (length wanted) 64 && eqb (length mask) 64 && eqb (length values) 64 && eqb cells 64) (k a : ℕ) (served : List ℕ) (d : Judged n fixed m k a served) where
+  module _ (k a : ℕ) (served : List ℕ) (d : Judged n (eqb (length wanted) 64 && eqb (length mask) 64 && eqb (length values) 64 && eqb cells 64) m k a served) where
     write-judges : writeJudged n wanted mask values cells m ≡ k
     unfolding writeJudged
-    write-judges = sym (d .judged ∙ ap (λ t. orElse (measured n t (length m)) (verdict n m)) u)
+    write-judges = sym (d .judged)
 
-    pub made-judged : 0 < k → (x b c : ℕ) (ds : List ℕ) → x ≡ k → Made n wanted mask values cells m x b c ds
+    pub made-judged : 0 < k → (b c : ℕ) (ds : List ℕ) → Made n wanted mask values cells m k b c ds
     unfolding writeNumber
-    made-judged h x b c ds e = made-refused x b c ds (e ∙ sym (rw write-judges (first-number k _ h))) (omega arith)
+    made-judged h b c ds = made-refused k b c ds (sym (rw write-judges (first-number k _ h))) (omega arith)
 
     module _ (z : k ≡ 0) where
       pub made-sized : Sized n wanted mask values cells m
@@ -97,8 +97,7 @@ module _ (n : ℕ) (wanted mask values : List ℕ) (cells : ℕ) (m : List ℕ) 
           let k : Bool = eqb (length mask) 64 in
           let v : Bool = eqb (length values) 64 in
           let c : Bool = eqb cells 64 in
-          let all : w && k && v && c ≡ true = sym u ∙ f .sized in
-          let wkv : w && k && v ≡ true = and-left (w && k && v) c all in
+          let wkv : w && k && v ≡ true = and-left (w && k && v) c (f .sized) in
           let wk : w && k ≡ true = and-left (w && k) v wkv in
           record {
             least = f .least;
@@ -106,7 +105,7 @@ module _ (n : ℕ) (wanted mask values : List ℕ) (cells : ℕ) (m : List ℕ) 
             wants = eqb-true (length wanted) 64 (and-left w k wk);
             masks = eqb-true (length mask) 64 (and-right w k wk);
             holds = eqb-true (length values) 64 (and-right (w && k) v wkv);
-            stores = eqb-true cells 64 (and-right (w && k && v) c all);
+            stores = eqb-true cells 64 (and-right (w && k && v) c (f .sized));
             notes = f .long;
           }
 
@@ -132,8 +131,8 @@ module _ (n : ℕ) (wanted mask values : List ℕ) (cells : ℕ) (m : List ℕ) 
         unfolding writeNumber
         planned-number = rw (write-judges, z) (ap (λ x. cond (ltb n x) 6 0) (sym length-row))
 
-        pub made-full : n < b → (x c e : ℕ) (ds : List ℕ) → x ≡ 6 → Made n wanted mask values cells m x c e ds
-        made-full h x c e ds s = made-refused x c e ds (s ∙ sym (planned-number ∙ ap (λ t. cond t 6 0) (lt-ltb n _ (p .over h)))) (omega arith)
+        pub made-full : n < b → (c e : ℕ) (ds : List ℕ) → Made n wanted mask values cells m 6 c e ds
+        made-full h c e ds = made-refused 6 c e ds (sym (planned-number ∙ ap (λ t. cond t 6 0) (lt-ltb n _ (p .over h)))) (omega arith)
 
         module _ (h : b ≤ n) where
           pub planned-few : a ≤ b

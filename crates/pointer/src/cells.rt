@@ -7,23 +7,17 @@ ghost use lib.ListN.{length};
 ghost use Rattle.bits.specs.Bits.{list, at, bytes};
 ghost use Rattle.pointercalls.specs.Pointer.{entry, shown, stored};
 
-pub fn copy(cells: &[u8], out: &mut [u8])
-    requires { ⌜ (length (now cells) ≡ 64) × (length (now out) ≡ 64) ⌝ }
-    ensures { λ _. ⌜ now (out .exit) ≡ now (cells .entry) ⌝ }
+// What each position shows: its cell, or the bit of the one of the first a entries of the metadata m that names it.
+pub fn show(cells: &[u8], m: &[u8], a: usize, out: &mut [u8])
+    requires { ⌜ (length (now cells) ≡ 64) × (length (now out) ≡ 64) × (a ≤ 10) ⌝ }
+    ensures { λ _. ⌜ now (out .exit) ≡ bytes 64 (λ p. shown (list a (entry (now (m .entry)))) p (at (now (cells .entry)) p)) ⌝ }
 {
     let mut i = 0;
     while i < 64 {
         out[i] = cells[i];
         i += 1;
     }
-}
-
-// Each of the first a entries of the metadata m shows its bit.
-pub fn patch(out: &mut [u8], m: &[u8], a: usize)
-    requires { ⌜ (length (now out) ≡ 64) × (a ≤ 10) ⌝ }
-    ensures { λ _. ⌜ now (out .exit) ≡ bytes 64 (λ p. shown (list a (entry (now (m .entry)))) p (at (now (out .entry)) p)) ⌝ }
-{
-    let mut i = 0;
+    i = 0;
     while i < a {
         let e = entry_at(m, i);
         let q = e % 512 / 8;

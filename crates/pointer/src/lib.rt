@@ -17,8 +17,7 @@ pub fn read(n: usize, cells: &[u8], metadata: &[u8], out: &mut [u8]) -> ReadAnsw
     if 0 < row.number {
         return ReadAnswer { number: row.number };
     }
-    cells::copy(cells, out);
-    cells::patch(out, metadata, row.active);
+    cells::show(cells, metadata, row.active, out);
     ReadAnswer { number: 0 }
 }
 

@@ -4,9 +4,7 @@ use super::encode::counted;
 use super::encode::kept;
 use super::encode::renewed;
 ghost use mathlib.Core.Path.{_≡_};
-ghost use mathlib.Core.Bool.{_&&_};
 ghost use Prim.Native.Nat.{ℕ, _≤_, _<_};
-ghost use lib.Dec.{eqb};
 ghost use lib.ListN.{length};
 ghost use Rattle.bits.specs.Bits.{list, has};
 ghost use Rattle.pointercalls.specs.Pointer.{entry};
@@ -23,39 +21,34 @@ pub struct Plan {
 pub fn made(n: usize, data: &[u8], mask: &[u8], values: &[u8], cells: usize, m: &[u8]) -> Plan
     ensures { λ r. ⌜ Made n (now («data» .entry)) (now (mask .entry)) (now (values .entry)) cells (now (m .entry)) (r .number) (r .active) (r .new) (r .digits) ⌝ }
 {
-    let row = found(n, sized(data.len(), mask.len(), values.len(), cells), m);
+    let fixed = (data.len() == 64) & (mask.len() == 64);
+    let row = found(n, fixed & (values.len() == 64) & (cells == 64), m);
     if 0 < row.number {
-        return refused(row.number);
+        let none = [0usize; 12];
+        return Plan {
+            number: row.number,
+            active: 0,
+            new: 0,
+            digits: none,
+        };
     }
     let served = row.served;
     let all = planned(n, data, mask, values, served, m, row.active);
-    if n < all.active {
-        return refused(6);
-    }
+    let a = all.active;
     let digits = all.digits;
+    if n < a {
+        return Plan {
+            number: 6,
+            active: 0,
+            new: 0,
+            digits,
+        };
+    }
     Plan {
         number: 0,
-        active: all.active,
-        new: all.active - row.active,
-        digits: counted(n, digits, all.active),
-    }
-}
-
-fn sized(data: usize, mask: usize, values: usize, cells: usize) -> bool
-    ensures { λ r. ⌜ r ≡ eqb «data» 64 && eqb mask 64 && eqb values 64 && eqb cells 64 ⌝ }
-{
-    (data == 64) & (mask == 64) & (values == 64) & (cells == 64)
-}
-
-fn refused(number: usize) -> Plan
-    ensures { λ r. ⌜ r .number ≡ number ⌝ }
-{
-    let digits = [0usize; 12];
-    Plan {
-        number,
-        active: 0,
-        new: 0,
-        digits,
+        active: a,
+        new: a - row.active,
+        digits: counted(n, digits, a),
     }
 }
 

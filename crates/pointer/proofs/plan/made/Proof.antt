@@ -1,5 +1,4 @@
 -- `made` judges, plans, and adds the full bit or the count. Assumes nothing.
-use borrow.Author.Needs.{needs}
 use native.Mathlib.Omega.{arith}
 use Rattle.pointer.proofs.RowLaws.{made-judged, made-sized, made-full, planned-few, made-planned}
 use Rattle.pointer.proofs.plan.made.Statement.{statement}
@@ -9,27 +8,21 @@ pub made-spec : {M : Type 1} → statement M
 made-spec =
     tie.close
     (tie.spec
-    -- sized-requires
-    (λ c κs. search needs)
     -- found-requires
-    (λ c κs. search needs)
-    -- refused-requires
-    (λ c κs. search needs)
+    (λ c κs. tt)
     -- returns
-    (λ c. made-judged _ _ _ _ _ _ _ (c .before .before .before .before .sized .ensures) _ _ _ (c .before .before .before .found .ensures) (omega arith) _ _ _ _ (c .refused .ensures))
+    (λ c. made-judged _ _ _ _ _ _ _ _ _ (c .before .before .found .ensures) (c .if1 .taken) _ _ _)
     -- planned-requires
     (λ c κs.
     let d = c .before .before .before .found .ensures in
-    let g = c .before .before .before .before .before .before .before .before .before .args in
-    let s = made-sized (g .n) (g .«data» .now) (g .mask .now) (g .values .now) (g .cells) (g .m .now) _ (c .before .before .before .before .sized .ensures) _ _ _ d (omega arith) in
+    let g = c .before .before .before .before .before .before .before .before .args in
+    let s = made-sized (g .n) (g .«data» .now) (g .mask .now) (g .values .now) (g .cells) (g .m .now) _ _ _ d (omega arith) in
     (d .found (omega arith) .few, s .most, s .wants, s .masks, s .holds))
-    -- refused-requires-2
-    (λ c κs. search needs)
     -- returns-2
-    (λ c. made-full _ _ _ _ _ _ _ (c .before .before .before .before .before .before .before .before .sized .ensures) _ _ _ (c .before .before .before .before .before .before .before .found .ensures) (omega arith) _ _ (c .before .before .before .planned .ensures) (omega arith) _ _ _ _ (c .refused2 .ensures))
-    -- sub-t11
-    (λ c. planned-few _ _ _ _ (c .before .before .before .before .before .before .before .before .before .before .before .before .before .before .before .args .cells) _ _ (c .before .before .before .before .before .before .before .before .before .before .sized .ensures) _ _ _ (c .before .before .before .before .before .before .before .before .before .found .ensures) (omega arith) _ _ (c .before .before .before .before .before .planned .ensures) (omega arith))
+    (λ c. made-full _ _ _ _ _ _ _ _ _ (c .before .before .before .before .before .before .found .ensures) (omega arith) _ _ (c .before .before .planned .ensures) (c .if2 .taken) _ _ _)
+    -- sub-t16
+    (λ c. planned-few _ _ _ _ (c .before .before .before .before .before .before .before .before .before .before .before .before .args .cells) _ _ _ _ (c .before .before .before .before .before .before .before .found .ensures) (omega arith) _ _ (c .before .before .before .planned .ensures) (c .before .if2 .left))
     -- counted-requires
-    (λ c κs. let f = c .before .before .before .before .before .before .before .before .before .found .ensures .found (omega arith) in (f .least, f .most, omega arith))
+    (λ c κs. let f = c .before .before .before .before .before .before .before .found .ensures .found (omega arith) in (f .least, f .most, c .before .if2 .left))
     -- returns-3
-    (λ c. made-planned _ _ _ _ _ _ _ (c .before .before .before .before .before .before .before .before .before .before .before .sized .ensures) _ _ _ (c .before .before .before .before .before .before .before .before .before .before .found .ensures) (omega arith) _ _ (c .before .before .before .before .before .before .planned .ensures) (omega arith) _ (c .counted .ensures)))
+    (λ c. made-planned _ _ _ _ _ _ _ _ _ (c .before .before .before .before .before .before .before .before .found .ensures) (omega arith) _ _ (c .before .before .before .before .planned .ensures) (c .before .before .if2 .left) _ (c .counted .ensures)))
