@@ -33,6 +33,10 @@ module _ (n : ℕ) (fixed : Bool) where
   pub measured-by : (m : ℕ) (t : Bool) → ltb n 1 || ltb 10 n ≡ false → fixed && eqb m (size n) ≡ t → cond t 0 2 ≡ measured n fixed m
   measured-by m t h e = let s = in-range h in measured-in n fixed m t (s .0) (s .1) (sym e)
 
+-- a number that is not above 0
+pub none : {k : ℕ} → k ≤ 0 → k ≡ 0
+none h = omega arith
+
 first-number : (j k : ℕ) → 0 < j → orElse j k ≡ j
 first-number zero k h = absurd (omega arith)
 first-number (suc j) k h = refl

@@ -1,7 +1,6 @@
 -- `read` shows what was found to be right. Assumes nothing.
 use borrow.Author.Needs.{needs}
-use native.Mathlib.Omega.{arith}
-use Rattle.pointer.proofs.RowLaws.{read-refusal, read-sized, read-shown}
+use Rattle.pointer.proofs.RowLaws.{none, read-refusal, read-sized, read-shown}
 use Rattle.pointer.proofs.read.Statement.{statement}
 use Rattle.pointer.proofs.read.Tie as tie
 
@@ -14,8 +13,8 @@ read-spec =
     -- returns
     (λ c. read-refusal _ _ _ _ _ _ _ (c .before .before .found .ensures) (c .if1 .taken))
     -- show-requires
-    (λ c κs. let g = c .before .before .before .before .before .before .before .args in read-sized (g .n) (g .cells .now) (g .metadata .now) (g .out .now) _ _ _ (c .before .before .before .found .ensures) (omega arith))
+    (λ c κs. let g = c .before .before .before .before .before .before .before .args in read-sized (g .n) (g .cells .now) (g .metadata .now) (g .out .now) _ _ _ (c .before .before .before .found .ensures) (none (c .before .if1 .left)))
     -- same-length
     (λ c. search needs)
     -- returns-2
-    (λ c. read-shown _ _ _ _ _ _ _ (c .before .before .before .before .before .before .found .ensures) (omega arith) _ (c .before .before .show .ensures)))
+    (λ c. read-shown _ _ _ _ _ _ _ (c .before .before .before .before .before .before .found .ensures) (none (c .before .before .before .before .if1 .left)) _ (c .before .before .show .ensures)))
