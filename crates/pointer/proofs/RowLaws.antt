@@ -66,12 +66,11 @@ module _ (n : ℕ) (cells m out : List ℕ) (k a : ℕ) (served : List ℕ) (d :
   unfolding readNumber
   read-refusal h = read-refused n k cells m out (d .judged) (omega arith)
 
-  pub read-sized : k ≡ 0 → (length cells ≡ 64) × (length out ≡ 64) × (a ≤ 10)
+  pub read-sized : k ≡ 0 → (length cells ≡ 64) × (length out ≡ 64)
   read-sized z =
       let s = d .found z in (
         eqb-true (length cells) 64 (and-left (eqb (length cells) 64) (eqb (length out) 64) (s .sized)),
         eqb-true (length out) 64 (and-right (eqb (length cells) 64) (eqb (length out) 64) (s .sized)),
-        omega (arith, s .few, s .most),
       )
 
   pub read-shown : k ≡ 0 → (out′ : List ℕ) → out′ ≡ bytes 64 (λ p. shown (list a (entry m)) p (at cells p)) → Read n cells m out (record { number = 0 }) out′

@@ -111,7 +111,7 @@ fn marked(m: &[u8], a: usize) -> Marks
         let p = entry_at(m, i) % 512;
         let q = p / 8;
         let b = served[q];
-        let c = shown(b, p + 512);
+        let c = shown(b, p + 512); // as by an entry that shows a 1 there
         repeated = repeated | (b == c);
         served[q] = c;
         i += 1;

@@ -1,7 +1,7 @@
 // Pointer rows (document 000 as document 01 reads it): 512 cells, n correction entries and a full bit.
 mod octets; // bits of single bytes
 mod decode; // from metadata to entries
-mod plan; // which entries a write needs
+mod plan; // what a write is to store
 mod encode; // from entries to metadata
 mod cells; // the 64 bytes of a row
 

@@ -1,5 +1,6 @@
 -- `read` shows what was found to be right. Assumes nothing.
 use borrow.Author.Needs.{needs}
+use native.Mathlib.Omega.{arith}
 use Rattle.pointer.proofs.RowLaws.{none, read-refusal, read-sized, read-shown}
 use Rattle.pointer.proofs.read.Statement.{statement}
 use Rattle.pointer.proofs.read.Tie as tie
@@ -13,7 +14,12 @@ read-spec =
     -- returns
     (λ c. read-refusal _ _ _ _ _ _ _ (c .before .before .found .ensures) (c .if1 .taken))
     -- show-requires
-    (λ c κs. let g = c .before .before .before .before .before .before .before .args in read-sized (g .n) (g .cells .now) (g .metadata .now) (g .out .now) _ _ _ (c .before .before .before .found .ensures) (none (c .before .if1 .left)))
+    (λ c κs.
+    let g = c .before .before .before .before .before .before .before .args in
+    let d = c .before .before .before .found .ensures in
+    let z = none (c .before .if1 .left) in
+    let s = read-sized (g .n) (g .cells .now) (g .metadata .now) (g .out .now) _ _ _ d z in
+    (s .0, s .1, omega (arith, d .found z .few, d .found z .most)))
     -- same-length
     (λ c. search needs)
     -- returns-2

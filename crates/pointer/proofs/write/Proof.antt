@@ -1,6 +1,7 @@
 -- `write` stores what was worked out. Assumes nothing.
 use mathlib.Core.Path.{_≡_}
 use borrow.Author.Needs.{needs}
+use native.Mathlib.Omega.{arith}
 use Rattle.pointer.proofs.RowLaws.{none, write-refusal, write-small, write-made}
 use Rattle.pointer.proofs.write.Statement.{statement}
 use Rattle.pointer.proofs.write.Tie as tie
@@ -14,7 +15,7 @@ write-spec =
     -- same-length
     (λ c. search needs)
     -- returns
-    (λ c. write-refusal _ _ _ _ _ _ _ _ _ _ (c .before .before .made .ensures) (c .if1 .taken))
+    (λ c. write-refusal _ _ _ _ _ _ _ _ _ _ (c .before .before .made .ensures) (omega arith))
     -- store-requires
     (λ c κs. let s = c .before .before .before .before .made .ensures .sized (none (c .before .before .if1 .left)) in (s .wants, s .masks, s .holds, s .stores))
     -- store-requires-2

@@ -16,7 +16,7 @@ count-spec =
     -- byte-requires
     (λ c κs. search needs)
     -- returns
-    (λ c. (count-full _ _ _ (c .before .byte .ensures .0) (c .if1 .taken), omega arith))
+    (λ c. (count-full _ _ _ (c .before .byte .ensures .0) (omega arith), omega arith))
     -- sub-entry-at
     (λ c. search needs)
     -- entry-at-requires
