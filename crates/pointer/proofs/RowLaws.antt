@@ -10,7 +10,7 @@ use lib.Dec.{eqb, ltb}
 use lib.ListN.{length, length-append, length-map}
 use Rattle.bits.specs.Bits.{list, at, bytes, Below}
 use Rattle.bits.proofs.TestLaws.{and-left, and-right, or-out, or-neither}
-use Rattle.pointercalls.specs.Pointer.{size, entry, active, held, names, shown, unserved, positions, renewed, after, activeAfter, stored, orElse, measured, verdict, readNumber, needed, writeJudged, writeNumber}
+use Rattle.pointercalls.specs.Pointer.{size, entry, active, held, shown, unserved, positions, renewed, after, activeAfter, stored, orElse, measured, verdict, readNumber, needed, writeJudged, writeNumber}
 use Rattle.pointercalls.specs.Promises.{Read, Write}
 use Rattle.pointer.specs.Steps.{digit, digitBit, Digits, Sized, Marked, Judged, unservedAt, Planned, Made}
 use Rattle.pointercalls.proofs.PositionLaws.{length-positions, positions-ext}

@@ -1,5 +1,4 @@
 -- `write` stores what was worked out. Assumes nothing.
-use mathlib.Core.Path.{_≡_}
 use borrow.Author.Needs.{needs}
 use native.Mathlib.Omega.{arith}
 use Rattle.pointer.proofs.RowLaws.{none, write-refusal, write-small, write-made}

@@ -1,6 +1,4 @@
 -- `found` refuses what is not measured right, and reads the rest. Assumes nothing.
-use mathlib.Core.Path.{_≡_}
-use borrow.Author.Needs.{needs}
 use native.Mathlib.Omega.{arith}
 use Rattle.pointer.proofs.DecodeLaws.{counted}
 use Rattle.pointer.proofs.RowLaws.{none, row-unmeasured, row-sized, row-decoded}
