@@ -1,6 +1,7 @@
 // Grid blocks: a grid of cells, one word a row, and a counter for each row and each column.
 mod levels;
 mod pattern;
+mod sets;
 
 use gridcalls::ReadAnswer;
 use gridcalls::WriteAnswer;
@@ -39,7 +40,7 @@ fn read_sized(columns: usize, k: usize, cells: &[u64], counters: &[u8], out: &mu
         return 3;
     }
     let c = counters::unpack(k, cells.len() + columns, counters);
-    let held = c.held;
+    let held = c.held; // an array in a field is lent by a variable
     if c.number == 0 {
         pattern::show(columns, cells, &held, out);
     }
@@ -105,6 +106,7 @@ fn write_sized(
     if !t.ended {
         return refused(7);
     }
+    // An array in a field is passed by a variable.
     let taken_rows = t.rows;
     let taken_columns = t.columns;
     pattern::store(data, mask, values, taken_rows, taken_columns, t.used, cells);

@@ -30,7 +30,7 @@ fn shown_row(w: u64, columns: usize, r: u8, counters: &[u8; 128], rows: usize) -
     let mut v = 0u64;
     let mut j = 0;
     while j < columns {
-        v = crate::levels::mark_if(shown(w, j, r, counters[rows + j]), j) | v;
+        v = crate::sets::mark_if(shown(w, j, r, counters[rows + j]), j) | v;
         j += 1;
     }
     v
@@ -48,12 +48,6 @@ pub fn show(columns: usize, cells: &[u64], counters: &[u8; 128], out: &mut [u64]
     }
 }
 
-fn only_if(t: bool, x: u64) -> u64
-    ensures { λ r. ⌜ r ≡ cond t x 0 ⌝ }
-{
-    if t { x } else { 0 }
-}
-
 // The cells of row `i` that an odd number of the first `used` pairs of sets have.
 fn pattern(rows: &[u64; 8], columns: &[u64; 8], used: usize, i: usize) -> u64
     requires { ⌜ (used ≤ 8) × (i < 64) ⌝ }
@@ -62,7 +56,7 @@ fn pattern(rows: &[u64; 8], columns: &[u64; 8], used: usize, i: usize) -> u64
     let mut w = 0u64;
     let mut m = 0;
     while m < used {
-        w = only_if((rows[m] >> i) % 2 == 1, columns[m]) ^ w;
+        w = crate::sets::only_if((rows[m] >> i) % 2 == 1, columns[m]) ^ w;
         m += 1;
     }
     w

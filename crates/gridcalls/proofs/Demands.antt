@@ -1,42 +1,56 @@
 -- What is demanded of a read and of a write holds of every one that ends exactly as it should. Assumes nothing.
-use Prim.Native.Nat.{ℕ, _+_, _*_, _^_, _<_, _≤_}
-use mathlib.Core.Path.{_≡_, refl, sym, ap, subst, _∙_}
-use mathlib.Core.Bool.{true}
+use Prim.Native.Nat.{ℕ, _+_, _*_, _/_, _%_, _^_, _<_, _≤_, min}
+use mathlib.Core.Path.{_≡_, refl, sym, ap, ap₂, subst, _∙_}
+use mathlib.Core.Bool.{true, not, xor}
 use mathlib.Core.List.{List}
 use mathlib.Core.Logic.{_↔_, inl, inr}
+use native.Mathlib.Nat.{mod-lt}
 use native.Mathlib.Omega.{arith}
+use lib.Dec.{eqb}
 use lib.ListN.{length}
-use Rattle.bits.specs.Bits.{Below}
+use lib.Pow.{pow-pos}
+use Rattle.bits.specs.Bits.{number, Below}
 use Rattle.bits.specs.Lowest.{Lowest}
-use Rattle.bits.proofs.TestLaws.{clash, iff-false, false-iff, iff-stable}
+use Rattle.bits.proofs.TestLaws.{iff-false, false-iff, iff-stable}
 use Rattle.bits.proofs.LowestLaws.{lowest-none, lowest-is}
-use Rattle.bits.proofs.ByteLaws.{length-words, words-below}
+use Rattle.bits.proofs.BitLaws.{has-ext, has-low, has-shr}
+use Rattle.bits.proofs.ByteLaws.{length-words, words-below, has-words}
 use Rattle.rdis.specs.Block.{Block, Sized, bit, stuck, stuckCells}
 use Rattle.rdis.specs.Levels.{Outcome, masked, unmaskable, plan}
-use Rattle.rdis.specs.Cells.{stored, reading}
+use Rattle.rdis.specs.Cells.{flips, stored, reading}
 use Rattle.rdis.specs.Chains.{HasChain}
 use Rattle.rdis.specs.Packing.{width, inOrder, counter, rowCounter, columnCounter}
-use Rattle.rdis.specs.Theorems.{Masked, LevelsUsed, Packs}
+use Rattle.rdis.specs.Theorems.{Masked, LevelsUsed, CountsLevels, Packs}
 use Rattle.rdis.proofs.LevelLaws.{refused-by-chain, levels-by-chain}
 use Rattle.rdis.proofs.CellLaws.{stuck-held}
-use Rattle.rdis.proofs.PackingLaws.{width-holds, plan-packs, plan-counter, read-back-packed}
+use Rattle.rdis.proofs.CounterLaws.{counters-at-most}
+use Rattle.rdis.proofs.TakenLaws.{levels-counted, counts-ext}
+use Rattle.rdis.proofs.PackingLaws.{width-holds, counters-back, plan-packs, plan-counter, read-back-packed}
 use Rattle.rdis.proofs.CountLaws.{faults-are-cells}
 use Rattle.rdis.proofs.FaultLaws.{levels-by-faults}
 use Rattle.gridcalls.specs.Calls.{used, rowsOf, columnsOf}
 use Rattle.gridcalls.specs.Refusals.{InRange, WriteLengths, ReadRefused, rangeRead, lengthRead, pastRead, spareRead, aboveRead, WriteRefused, rangeWrite, lengthWrite, pastWrite, chainWrite}
-use Rattle.gridcalls.specs.Promises.{ReadExactly, Read, WriteExactly, Write}
+use Rattle.gridcalls.specs.Promises.{Held, ReadExactly, Read, WriteExactly, Write}
 use Rattle.gridcalls.specs.declared.ReadAnswer.{ReadAnswer}
 use Rattle.gridcalls.specs.declared.WriteAnswer.{WriteAnswer}
-use Rattle.gridcalls.proofs.RefusalLaws.{in-range, write-sized, within, past-iff, read-lowest, write-7, write-lowest}
+use Rattle.gridcalls.proofs.RefusalLaws.{in-range, write-sized, within, past-iff, spare-iff, read-lowest, write-7, write-lowest}
 
 -- ---- a read
 
+held-is : (w t x : ℕ) (bs : List ℕ) → Held w bs t x → counter w bs t ≡ x
+unfolding counter
+held-is w t x bs (l, f) =
+    has-ext w (counter w bs t) x (mod-lt (number 256 bs / 2 ^ (w * t)) (pow-pos w)) l (λ q p. has-low w (number 256 bs / 2 ^ (w * t)) q p ∙ has-shr (number 256 bs) (w * t) q ∙ sym (f q p))
+
 pub read-demands : (m n k : ℕ) (cells counters out : List ℕ) (a : ReadAnswer) (after : List ℕ) → ReadExactly m n k cells counters out a after → Read m n k cells counters out a after
-unfolding reading
+unfolding reading bit flips
 read-demands m n k cells counters out a after e = record {
   exactly = e;
   lowest = subst (Lowest (ReadRefused m n k cells counters (length out))) (sym (e .number)) (read-lowest m n k cells counters (length out));
   inside = λ z. subst (Sized m n) (sym (e .shown z)) (length-words m n _, words-below m n _);
+  shows = λ z i j x y p q u v.
+      ap (λ ws. bit ws i j) (e .shown z) ∙ has-words m n _ i j p q
+      ∙ ap₂ (λ a b. xor (eqb (min a b % 2) 1) (bit cells i j)) (held-is (width k) i x counters u) (held-is (width k) (m + j) y counters v);
 }
 
 -- ---- a write
@@ -106,6 +120,13 @@ module _ (b : Block) (k : ℕ) (cells counters : List ℕ) (a : WriteAnswer) (ce
     packs : Packs (width k) (b .rows + b .columns) (inOrder (b .rows) (b .columns) (rowsOf (plan b k)) (columnsOf (plan b k))) counters′
     packs = subst (Packs (width k) (b .rows + b .columns) _) (sym (e .countersAre z)) (plan-packs b k _ _ _ planned (width k) fits)
 
+    counters-count : CountsLevels b (rowCounter (width k) counters′) (columnCounter (width k) (b .rows) counters′)
+    counters-count =
+        let (r, c) = counters-at-most b k _ _ _ planned in
+        let few = levels-by-chain b k _ _ _ planned .most in
+        let (x, y) = counters-back (width k) (b .rows) (b .columns) (rowsOf (plan b k)) (columnsOf (plan b k)) (λ i _. omega (arith, r i, fits)) (λ j _. omega (arith, c j, fits)) in
+        rw (e .countersAre z) (counts-ext b _ _ _ _ (λ i p. sym (x i p)) (λ j p. sym (y j p)) (levels-counted b k _ _ _ planned))
+
     at-most : (t : ℕ) → t < b .rows + b .columns → counter (width k) counters′ t ≤ k
     at-most t p = subst (λ bs. counter (width k) bs t ≤ k) (sym (e .countersAre z)) (plan-counter b k _ _ _ planned (width k) t fits p)
 
@@ -114,7 +135,7 @@ module _ (b : Block) (k : ℕ) (cells counters : List ℕ) (a : WriteAnswer) (ce
     read-none out l y (rangeRead h) = h range
     read-none out l y (lengthRead h) = h (record { cellWords = cells-sized .0; counterBytes = packs .size; outWords = l })
     read-none out l y (pastRead p) = iff-false _ (past-iff (b .columns) cells′) (within (b .columns) cells′ .1 (cells-sized .1)) p
-    read-none out l y (spareRead h) = clash (packs .spare) h
+    read-none out l y (spareRead h) = iff-false _ (spare-iff (width k) (b .rows + b .columns) counters′) (ap not (packs .spare)) h
     read-none out l y (aboveRead t p h) = omega (arith, at-most t p)
 
     reads-back : (out : List ℕ) → length out ≡ b .rows → Read (b .rows) (b .columns) k cells′ counters′ out (record { number = 0 }) (b .data·)
@@ -134,5 +155,6 @@ module _ (b : Block) (k : ℕ) (cells counters : List ℕ) (a : WriteAnswer) (ce
     fewLevels = twice-levels;
     inside = cells-sized;
     held = stuck-cells-held;
+    counted = counters-count;
     readsBack = reads-back;
   }

@@ -1,7 +1,7 @@
 -- The tests of a number test what the refusals say, and the number is the lowest refusal that applies. Assumes nothing.
 use Prim.Native.Nat.{ℕ, _+_, _*_, _^_, _<_, _≤_}
 use mathlib.Core.Path.{_≡_, refl, ap, _∙_}
-use mathlib.Core.Bool.{true, false}
+use mathlib.Core.Bool.{true, false, not}
 use mathlib.Core.List.{List}
 use mathlib.Core.Logic.{_↔_, _⊎_, inl, inr, Iff·trans, ⊎-elim}
 use native.Mathlib.Omega.{arith}
@@ -9,9 +9,9 @@ use borrow.Author.Tests.{leb-false, lt-leb}
 use lib.Dec.{leb}
 use lib.ListN.{length, getD}
 use lib.Pow.{pow-pos}
-use Rattle.bits.specs.Bits.{has, Below}
+use Rattle.bits.specs.Bits.{has, number, Below}
 use Rattle.bits.specs.Lowest.{Lowest}
-use Rattle.bits.proofs.TestLaws.{clash, false-when, lt-or-le, leb-iff, ltb-iff, eqb-iff, not-iff, and-iff, or-iff}
+use Rattle.bits.proofs.TestLaws.{clash, lt-or-le, leb-iff, ltb-iff, eqb-iff, not-iff, and-iff, or-iff}
 use Rattle.bits.proofs.LowestLaws.{From, test-first, from-none, from-first}
 use Rattle.bits.proofs.BoundLaws.{none-below, some-none, some-iff}
 use Rattle.bits.proofs.BitLaws.{has-zero, high-bit}
@@ -22,7 +22,7 @@ use Rattle.rdis.specs.Chains.{HasChain}
 use Rattle.rdis.specs.Packing.{width, bytesFor, counter, spareClear}
 use Rattle.rdis.proofs.LevelLaws.{refused-by-chain}
 use Rattle.gridcalls.specs.Calls.{between, inRange, sized, past, readSized, readPast, above, readNumber, writeSized, writePast, refusal, writeNumber}
-use Rattle.gridcalls.specs.Refusals.{InRange, ReadLengths, WriteLengths, Past, ReadRefused, rangeRead, lengthRead, pastRead, spareRead, aboveRead, WriteRefused, rangeWrite, lengthWrite, pastWrite, chainWrite}
+use Rattle.gridcalls.specs.Refusals.{InRange, ReadLengths, WriteLengths, Past, Spare, ReadRefused, rangeRead, lengthRead, pastRead, spareRead, aboveRead, WriteRefused, rangeWrite, lengthWrite, pastWrite, chainWrite}
 
 -- ---- each test
 
@@ -69,8 +69,14 @@ past-iff n ws =
       λ (i, j, p, q). (i, ⊎-elim (λ l. l) (λ l. clash q (ap (λ x. has x j) (past-end ws i l) ∙ has-zero j)) (lt-or-le i (length ws)), (j, p, q)),
     )
 
-read-past-iff : (m n k : ℕ) (cells counters : List ℕ) → (readPast m n k cells counters ≡ true) ↔ (Past n cells ⊎ (spareClear (width k) (m + n) counters ≡ true → ⊥))
-read-past-iff m n k cells counters = or-iff _ (past-iff n cells) _ (not-iff _ (λ h. h, λ h. h))
+pub spare-iff : (w n : ℕ) (bs : List ℕ) → (not (spareClear w n bs) ≡ true) ↔ Spare w n bs
+unfolding spareClear
+spare-iff w n bs =
+    Iff·trans (Iff·trans (not-iff _ (ltb-iff (number 256 bs) (2 ^ (w * n)))) (λ h. ⊎-elim (λ l. absurd (h l)) (λ l. l) (lt-or-le (number 256 bs) (2 ^ (w * n))), λ h l. omega arith))
+    (high-bit (w * n) (number 256 bs))
+
+read-past-iff : (m n k : ℕ) (cells counters : List ℕ) → (readPast m n k cells counters ≡ true) ↔ (Past n cells ⊎ Spare (width k) (m + n) counters)
+read-past-iff m n k cells counters = or-iff _ (past-iff n cells) _ (spare-iff (width k) (m + n) counters)
 
 write-past-iff : (b : Block) → (writePast b ≡ true) ↔ (Past (b .columns) (b .data·) ⊎ (Past (b .columns) (b .mask) ⊎ Past (b .columns) (b .values)))
 write-past-iff b = or-iff _ (past-iff (b .columns) (b .data·)) _ (or-iff _ (past-iff (b .columns) (b .mask)) _ (past-iff (b .columns) (b .values)))
@@ -88,9 +94,9 @@ module _ (m n k : ℕ) (cells counters : List ℕ) (out : ℕ) where
   read-2 : ReadRefused m n k cells counters out 2 → ReadLengths m n k (length cells) (length counters) out → ⊥
   read-2 (lengthRead h) = h
 
-  read-3 : ReadRefused m n k cells counters out 3 → Past n cells ⊎ (spareClear (width k) (m + n) counters ≡ true → ⊥)
+  read-3 : ReadRefused m n k cells counters out 3 → Past n cells ⊎ Spare (width k) (m + n) counters
   read-3 (pastRead h) = inl h
-  read-3 (spareRead h) = inr (λ e. clash e h)
+  read-3 (spareRead h) = inr h
 
   read-4 : ReadRefused m n k cells counters out 4 → (t : ℕ) × (t < m + n) × (k < counter (width k) counters t)
   read-4 (aboveRead t l h) = (t, l, h)
@@ -109,7 +115,7 @@ module _ (m n k : ℕ) (cells counters : List ℕ) (out : ℕ) where
       from-first P _ (λ y p. read-some y p .0)
       (test-first P 1 _ _ (omega arith) (Iff·trans (not-iff _ (in-range m n k)) (rangeRead, read-1)) (λ _.
       test-first P 2 _ _ (omega arith) (Iff·trans (not-iff _ (read-sized m n k (length cells) (length counters) out)) (lengthRead, read-2)) (λ _.
-      test-first P 3 _ _ (omega arith) (Iff·trans (read-past-iff m n k cells counters) (⊎-elim pastRead (λ h. spareRead (false-when _ h)), read-3)) (λ _.
+      test-first P 3 _ _ (omega arith) (Iff·trans (read-past-iff m n k cells counters) (⊎-elim pastRead spareRead, read-3)) (λ _.
       test-first P 4 0 _ (omega arith) (Iff·trans (above-iff m n k counters) (λ (t, l, h). aboveRead t l h, read-4)) (λ _.
       from-none P 5 (λ y q p. omega (arith, read-some y p)))))))
 

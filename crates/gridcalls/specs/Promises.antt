@@ -1,21 +1,27 @@
 -- What the public functions promise, a field each. Assumes nothing.
-use Prim.Native.Nat.{ℕ, _+_, _*_, _<_, _≤_}
+use Prim.Native.Nat.{ℕ, _+_, _*_, _%_, _^_, _<_, _≤_, min}
 use mathlib.Core.Path.{_≡_}
-use mathlib.Core.Bool.{true}
+use mathlib.Core.Bool.{true, xor}
 use mathlib.Core.List.{List}
 use mathlib.Core.Logic.{_↔_}
+use lib.Dec.{eqb}
 use lib.ListN.{length}
+use Rattle.bits.specs.Bits.{has, number}
 use Rattle.bits.specs.Lowest.{Lowest}
 use Rattle.rdis.specs.Block.{Block, Sized, bit, stuck, faults, stuckCells}
 use Rattle.rdis.specs.Levels.{plan}
 use Rattle.rdis.specs.Cells.{stored, reading}
 use Rattle.rdis.specs.Chains.{HasChain}
 use Rattle.rdis.specs.Packing.{width, inOrder, packed, rowCounter, columnCounter}
-use Rattle.rdis.specs.Theorems.{LevelsUsed, withValues}
+use Rattle.rdis.specs.Theorems.{LevelsUsed, CountsLevels, withValues}
 use Rattle.gridcalls.specs.Calls.{readNumber, writeNumber, used, rowsOf, columnsOf}
 use Rattle.gridcalls.specs.Refusals.{Past, ReadRefused, WriteRefused}
 use Rattle.gridcalls.specs.declared.ReadAnswer.{ReadAnswer}
 use Rattle.gridcalls.specs.declared.WriteAnswer.{WriteAnswer}
+
+-- x is the number that the w bits of the bytes from bit w t on make
+abbrev pub Held : ℕ → List ℕ → ℕ → ℕ → Type 0
+Held w bs t x = (x < 2 ^ w) × ((q : ℕ) → q < w → has x q ≡ has (number 256 bs) (w * t + q))
 
 -- how a read of m rows and n columns at K = k ends, exactly: lent `out`, which holds `after` at the end
 pub record ReadExactly (m n k : ℕ) (cells counters out : List ℕ) (answer : ReadAnswer) (after : List ℕ) : Type 0 where
@@ -33,6 +39,9 @@ pub record Read (m n k : ℕ) (cells counters out : List ℕ) (answer : ReadAnsw
   pub lowest : Lowest (ReadRefused m n k cells counters (length out)) (answer .number)
   -- accepted: a word a row, with no bit past the last column
   pub inside : answer .number ≡ 0 → Sized m n after
+  -- each cell by itself: the row's counter is among the first m, the column's after them, and where the smaller is odd the other bit is shown
+  pub shows : answer .number ≡ 0 → (i j x y : ℕ) → i < m → j < n → Held (width k) counters i x → Held (width k) counters (m + j) y
+      → bit after i j ≡ xor (eqb (min x y % 2) 1) (bit cells i j)
 
 -- how a write of the block b at K = k ends, exactly: lent `cells` and `counters`, which hold `cells′` and `counters′` at the end
 pub record WriteExactly (b : Block) (k : ℕ) (cells counters : List ℕ) (answer : WriteAnswer) (cells′ counters′ : List ℕ) : Type 0 where
@@ -61,6 +70,8 @@ pub record Write (b : Block) (k : ℕ) (cells counters : List ℕ) (answer : Wri
   -- a word a row, with no bit past the last column; a stuck cell holds its stuck value
   pub inside : answer .number ≡ 0 → Sized (b .rows) (b .columns) cells′
   pub held : answer .number ≡ 0 → (i j : ℕ) → i < b .rows → j < b .columns → stuck b i j ≡ true → bit cells′ i j ≡ bit (b .values) i j
+  -- every counter that the bytes hold is how many levels took its line
+  pub counted : answer .number ≡ 0 → CountsLevels b (rowCounter (width k) counters′) (columnCounter (width k) (b .rows) counters′)
   -- what the public read promises of the cells and counters as they are at the end: it answers 0, and any output is filled with the data
   pub readsBack : answer .number ≡ 0 → (out : List ℕ) → length out ≡ b .rows → Read (b .rows) (b .columns) k cells′ counters′ out (record { number = 0 }) (b .data·)
 

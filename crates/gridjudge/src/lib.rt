@@ -54,7 +54,7 @@ pub fn read_number(
     number(rows, columns, k, cells, counters, out == rows)
 }
 
-// The refusal of a write's.
+// The same for a write.
 pub fn write_number(
     rows: usize,
     columns: usize,

@@ -8,3 +8,4 @@ pub mod PackingLaws
 pub mod SoundLaws
 pub mod CountLaws
 pub mod FaultLaws
+pub mod TakenLaws

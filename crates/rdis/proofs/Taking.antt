@@ -97,7 +97,7 @@ module _ (b : Block) (w : Bool) (s : Subgrid) where
       let (e, p, q) = row-out i l t .1 in
       (e, p)
 
-  narrow : {v : Bool} {c : Cell} → In b (taken b w s) v c → In b s v c
+  pub narrow : {v : Bool} {c : Cell} → In b (taken b w s) v c → In b s v c
   narrow {v} {c} h = record { lines = λ d. line-out d (line d c) (h .lines d) .0; cell = h .cell }
 
   -- each cell of what is taken has one of the colour in its row, and one in its column

@@ -5,9 +5,10 @@ use mathlib.Core.Path.{_≡_}
 use mathlib.Core.Bool.{true, false}
 use mathlib.Core.List.{List}
 use mathlib.Core.Logic.{_↔_}
+use lib.Dec.{eqb}
 use lib.ListN.{length, getD}
 use Rattle.bits.specs.Bits.{has, at, bytes, Below}
-use Rattle.rdis.specs.Block.{Block, Sized, bit, stuck, wrong, stuckCells, faults}
+use Rattle.rdis.specs.Block.{Block, Sized, bit, stuck, faulty, wrong, stuckCells, faults}
 use Rattle.rdis.specs.Levels.{masked, unmaskable, plan}
 use Rattle.rdis.specs.Cells.{flips, stored, reading}
 use Rattle.rdis.specs.Chains.{HasChain, SomeWrong}
@@ -40,6 +41,20 @@ LevelsByChain = (b : Block) (k l : ℕ) (r c : ℕ → ℕ) → Masked b k l r c
 -- a chain has a cell
 abbrev pub NoChainEmpty : Type 0
 NoChainEmpty = (b : Block) → HasChain b 0 → ⊥
+
+-- r and c count the levels that took a line: level t, from 0, took it exactly if all levels before it did, and it holds a stuck cell whose line across
+-- they all took too, and which is wrong if t is even and right if t is odd
+pub record CountsLevels (b : Block) (r c : ℕ → ℕ) : Type 0 where
+  pub rows : (i t : ℕ) → i < b .rows → (t < r i) ↔ ((t ≤ r i) × ((j : ℕ) × (j < b .columns) × (t ≤ c j) × (faulty b (eqb (t % 2) 0) i j ≡ true)))
+  pub columns : (j t : ℕ) → j < b .columns → (t < c j) ↔ ((t ≤ c j) × ((i : ℕ) × (i < b .rows) × (t ≤ r i) × (faulty b (eqb (t % 2) 0) i j ≡ true)))
+
+-- the counters of a plan do, and no others
+abbrev pub LevelsCounted : Type 0
+LevelsCounted = (b : Block) (k l : ℕ) (r c : ℕ → ℕ) → Masked b k l r c → CountsLevels b r c
+
+abbrev pub OneCount : Type 0
+OneCount =
+    (b : Block) (r c r′ c′ : ℕ → ℕ) → CountsLevels b r c → CountsLevels b r′ c′ → ((i : ℕ) → i < b .rows → r i ≡ r′ i) × ((j : ℕ) → j < b .columns → c j ≡ c′ j)
 
 -- ---- 3. levels and faults
 
