@@ -1,18 +1,28 @@
--- The one test: every call of the table comes to its line. Assumes nothing.
-use mathlib.Core.Path.{_≡_, refl}
+-- The one test: every call of the table comes to its line; so does whatever meets its promise. Assumes nothing.
+use mathlib.Core.Path.{_≡_, refl, subst}
 use mathlib.Core.Bool.{xor}
-use mathlib.Core.List.{map}
+use mathlib.Core.List.{List, [], _∷_, map, head-eq-of-cons-eq, tail-eq-of-cons-eq}
 use lib.Count.{ones, onesIn}
 use Rattle.bits.specs.Bits.{some, sum, list, has, word, words, at, bytes, number, digits}
 use Rattle.rdis.specs.Block.{bit, differs, faulty, faults}
 use Rattle.rdis.specs.Levels.{whole, takes, taken, left, levels, plan}
 use Rattle.rdis.specs.Cells.{flips, holds, stored}
-use Rattle.rdis.specs.Packing.{width, bytesFor, packed}
+use Rattle.rdis.specs.Packing.{width, bytesFor, packed, counter, unpacked}
 use Rattle.gridcalls.specs.Calls.{inRange, sized, past, writeNumber}
 use Rattle.pointercalls.specs.Pointer as pointer
 use Rattle.cases.specs.Lines.{line}
-use Rattle.cases.specs.Table.{table}
+use Rattle.cases.specs.Table.{Row, table}
+use Rattle.cases.specs.Statements.{EveryCase, Promised, Every, EveryPromise}
+use Rattle.cases.proofs.PromiseLaws.{promised}
 
-pub every-case : map (λ r. line (r .call)) table ≡ map (λ r. r .expected) table
-unfolding line some sum list has word words at bytes number digits bit differs faulty faults ones onesIn whole takes taken left levels plan flips holds stored width bytesFor packed inRange sized past writeNumber xor pointer.entry pointer.spare pointer.active pointer.unary pointer.idle pointer.formed pointer.held pointer.names pointer.repeats pointer.shown pointer.unserved pointer.positions pointer.renewed pointer.after pointer.activeAfter pointer.stored pointer.slot pointer.metadataBit pointer.encode pointer.measured pointer.verdict pointer.readNumber pointer.needed pointer.writeJudged pointer.writeNumber
+pub every-case : EveryCase
+unfolding line some sum list has word words at bytes number digits bit differs faulty faults ones onesIn whole takes taken left levels plan flips holds stored width bytesFor packed counter unpacked inRange sized past writeNumber xor pointer.entry pointer.spare pointer.active pointer.unary pointer.idle pointer.formed pointer.held pointer.names pointer.repeats pointer.shown pointer.unserved pointer.positions pointer.renewed pointer.after pointer.activeAfter pointer.stored pointer.slot pointer.metadataBit pointer.encode pointer.measured pointer.verdict pointer.readNumber pointer.needed pointer.writeJudged pointer.writeNumber
 every-case = refl
+
+-- rows whose calls come to their lines are promised
+each : (rs : List Row) → map (λ r. line (r .call)) rs ≡ map (λ r. r .expected) rs → Every rs
+each [] e = tt
+each (r ∷ rs) e = (subst (Promised (r .call)) (head-eq-of-cons-eq e) (promised (r .call)), each rs (tail-eq-of-cons-eq e))
+
+pub every-promise : EveryPromise
+every-promise = each table every-case

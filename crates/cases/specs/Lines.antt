@@ -1,5 +1,5 @@
 -- What a call comes to by the definitions, as a line: numbers, then lists of bytes and words. Assumes nothing.
-use Prim.Native.Nat.{ℕ, zero, suc}
+use Prim.Native.Nat.{ℕ, zero, suc, _+_}
 use mathlib.Core.List.{List, [], _∷_}
 use lib.Dec.{eqb}
 use lib.ListN.{length, getD}
@@ -7,7 +7,7 @@ use Rattle.bits.specs.Bits.{some, at, bytes}
 use Rattle.rdis.specs.Block.{Block, faults}
 use Rattle.rdis.specs.Levels.{plan}
 use Rattle.rdis.specs.Cells.{stored}
-use Rattle.rdis.specs.Packing.{width, inOrder, packed}
+use Rattle.rdis.specs.Packing.{width, inOrder, packed, unpacked}
 use Rattle.gridcalls.specs.Calls.{writeNumber, used, rowsOf, columnsOf}
 use Rattle.pointercalls.specs.Pointer as pointer
 
@@ -29,11 +29,16 @@ pub data Call : Type 0 where
   -- a write of a block with K levels
   gridWrite : Block → ℕ → (cells counters : List ℕ) → Call
 
--- a line by its number: one where it is 0, else the number with counts of 0 and the buffers as they were
-abbrev pub byNumber : ℕ → Line → Line → Line
+-- by the number: the first where it is 0, so where the call is accepted, else the second
+abbrev pub byNumber : {A : Type 0} → ℕ → A → A → A
 byNumber zero accepted refused = accepted
 byNumber (suc n) accepted refused = refused
 
+-- the counters that bytes hold: those of the block's rows, then those of its columns
+abbrev pub countersIn : Block → ℕ → List ℕ → List ℕ
+countersIn b k bs = unpacked (width k) (b .rows + b .columns) bs
+
+-- where it is refused, the counts are 0 and the buffers as they were
 unfoldable pub line : Call → Line
 line (metadata n es) =
     record {
@@ -58,6 +63,6 @@ line (gridWrite b k cells counters) =
       buffers =
           stored b (rowsOf (plan b k)) (columnsOf (plan b k))
           ∷ packed (width k) (inOrder (b .rows) (b .columns) (rowsOf (plan b k)) (columnsOf (plan b k)))
-          ∷ inOrder (b .rows) (b .columns) (rowsOf (plan b k)) (columnsOf (plan b k)) ∷ [];
+          ∷ countersIn b k (packed (width k) (inOrder (b .rows) (b .columns) (rowsOf (plan b k)) (columnsOf (plan b k)))) ∷ [];
     })
     (record { numbers = writeNumber b k (length cells) (length counters) ∷ 0 ∷ 0 ∷ []; buffers = cells ∷ counters ∷ [] })

@@ -1,0 +1,64 @@
+-- Whatever meets the promise of a call is the call's line: the number decides which. Assumes nothing.
+use Prim.Native.Nat.{ℕ, zero, suc}
+use mathlib.Core.Path.{_≡_, refl, sym, ap, _∙_}
+use mathlib.Core.List.{List, [], _∷_}
+use mathlib.Core.Logic.{_≢_}
+use native.Mathlib.Omega.{arith}
+use Rattle.bits.proofs.TestLaws.{iff-stable}
+use Rattle.rdis.specs.Block.{Block}
+use Rattle.pointercalls.specs.Pointer.{active, held, encode, verdict}
+use Rattle.pointercalls.specs.Refusals.{InRange, outOfRange}
+use Rattle.pointercalls.proofs.FormedLaws.{active-is}
+use Rattle.pointercalls.proofs.RefusalLaws.{range-iff}
+use Rattle.cases.specs.Lines.{Line, Call, metadata, pointerRead, pointerWrite, gridWrite, byNumber, countersIn, line}
+use Rattle.cases.specs.Statements.{Promised}
+
+-- an ending x with the number of its call is what the number says
+by-number : (answered computed : ℕ) (x accepted : Line) (refused : ℕ → Line) → answered ≡ computed → (answered ≡ 0 → x ≡ accepted) → (answered ≢ 0 → x ≡ refused answered)
+    → x ≡ byNumber computed accepted (refused computed)
+by-number answered zero x accepted refused e f g = f e
+by-number answered (suc n) x accepted refused e f g = g (λ z. omega arith) ∙ ap refused e
+
+-- a refusal has no third buffer
+none : (answered : ℕ) (third : List (List ℕ)) → answered ≢ 0 → byNumber answered third [] ≡ []
+none zero third h = absurd (h refl)
+none (suc n) third h = refl
+
+promised-metadata : (n : ℕ) (es : List ℕ) → Promised (metadata n es) (line (metadata n es))
+unfolding line
+promised-metadata n es wanted mask values cells m answer cells′ m′ w z e =
+    let range : InRange n = iff-stable _ (range-iff n) (λ q. w .lowest .none z 1 (outOfRange q)) in
+    let bytes : m′ ≡ encode n es = w .encodes z ∙ ap (encode n) e in
+    let count : answer .active ≡ active n (encode n es) = sym (active-is n m′ range (answer .active) (w .noted z)) ∙ ap (active n) bytes in
+    λ i. record { numbers = verdict n (bytes i) ∷ count i ∷ []; buffers = bytes i ∷ held n (bytes i) ∷ [] }
+
+promised-read : (n : ℕ) (cells m out : List ℕ) → Promised (pointerRead n cells m out) (line (pointerRead n cells m out))
+unfolding line
+promised-read n cells m out answer out′ r =
+    by-number (answer .number) _ _ _ (λ x. record { numbers = x ∷ []; buffers = out ∷ [] }) (r .number)
+    (λ z i. record { numbers = z i ∷ []; buffers = r .filled z i ∷ [] })
+    (λ z i. record { numbers = answer .number ∷ []; buffers = r .refused z i ∷ [] })
+
+promised-write : (n : ℕ) (wanted mask values cells m : List ℕ) → Promised (pointerWrite n wanted mask values cells m) (line (pointerWrite n wanted mask values cells m))
+unfolding line
+promised-write n wanted mask values cells m answer cells′ m′ w =
+    by-number (answer .number) _ _ _ (λ x. record { numbers = x ∷ 0 ∷ 0 ∷ []; buffers = cells ∷ m ∷ [] }) (w .number)
+    (λ z i. record { numbers = z i ∷ w .counts z .0 i ∷ w .counts z .1 i ∷ []; buffers = w .stores z i ∷ w .encodes z i ∷ [] })
+    (λ z. let (p, q, c, d) = w .refused z in λ i. record { numbers = answer .number ∷ p i ∷ q i ∷ []; buffers = c i ∷ d i ∷ [] })
+
+promised-grid : (b : Block) (k : ℕ) (cells counters : List ℕ) → Promised (gridWrite b k cells counters) (line (gridWrite b k cells counters))
+unfolding line
+promised-grid b k cells counters answer cells′ counters′ w =
+    let e = w .exactly in
+    by-number (answer .number) _ _ _ (λ x. record { numbers = x ∷ 0 ∷ 0 ∷ []; buffers = cells ∷ counters ∷ [] }) (e .number)
+    (λ z i. record { numbers = z i ∷ e .levelsAre z i ∷ e .faultsAre z i ∷ []; buffers = e .cellsAre z i ∷ e .countersAre z i ∷ byNumber (z i) (countersIn b k (e .countersAre z i) ∷ []) [] })
+    (λ z.
+    let (p, q, c, d) = e .untouched (omega arith) in
+    λ i. record { numbers = answer .number ∷ p i ∷ q i ∷ []; buffers = c i ∷ d i ∷ none (answer .number) (countersIn b k counters′ ∷ []) z i })
+
+-- so every call's line is promised
+pub promised : (c : Call) → Promised c (line c)
+promised (metadata n es) = promised-metadata n es
+promised (pointerRead n cells m out) = promised-read n cells m out
+promised (pointerWrite n wanted mask values cells m) = promised-write n wanted mask values cells m
+promised (gridWrite b k cells counters) = promised-grid b k cells counters

@@ -1,0 +1,44 @@
+-- What is proved of the table: by the definitions each call comes to its line, and whatever meets the promise of a call ends as its line says. (That the
+-- calls do meet their promises is proved of their code, in the crates pointer and grid.) Assumes nothing.
+use Prim.Native.Nat.{ℕ}
+use mathlib.Core.Path.{_≡_}
+use mathlib.Core.List.{List, [], _∷_, map}
+use Rattle.gridcalls.specs.Promises as grid
+use Rattle.gridcalls.specs.declared.WriteAnswer as gridAnswer
+use Rattle.pointercalls.specs.Pointer.{held, after, verdict}
+use Rattle.pointercalls.specs.Promises as pointer
+use Rattle.pointercalls.specs.declared.ReadAnswer.{ReadAnswer}
+use Rattle.pointercalls.specs.declared.WriteAnswer.{WriteAnswer}
+use Rattle.cases.specs.Lines.{Line, Call, metadata, pointerRead, pointerWrite, gridWrite, byNumber, countersIn, line}
+use Rattle.cases.specs.Table.{Row, table}
+
+abbrev pub EveryCase : Type 0
+EveryCase = map (λ r. line (r .call)) table ≡ map (λ r. r .expected) table
+
+-- every answer, with the buffers at the end, that meets the promise of a call is this line
+abbrev pub Promised : Call → Line → Type 0
+-- metadata is what an accepted write leaves: one after which these entries are active
+Promised (metadata n es) l =
+    (wanted mask values cells m : List ℕ) (answer : WriteAnswer) (cells′ m′ : List ℕ)
+    → pointer.Write n wanted mask values cells m answer cells′ m′ → answer .number ≡ 0 → after wanted mask values (held n m) ≡ es
+    → record { numbers = verdict n m′ ∷ answer .active ∷ []; buffers = m′ ∷ held n m′ ∷ [] } ≡ l
+Promised (pointerRead n cells m out) l =
+    (answer : ReadAnswer) (out′ : List ℕ) → pointer.Read n cells m out answer out′ → record { numbers = answer .number ∷ []; buffers = out′ ∷ [] } ≡ l
+Promised (pointerWrite n wanted mask values cells m) l =
+    (answer : WriteAnswer) (cells′ m′ : List ℕ) → pointer.Write n wanted mask values cells m answer cells′ m′
+    → record { numbers = answer .number ∷ answer .active ∷ answer .new ∷ []; buffers = cells′ ∷ m′ ∷ [] } ≡ l
+-- where it is accepted, the counters that the bytes hold come last
+Promised (gridWrite b k cells counters) l =
+    (answer : gridAnswer.WriteAnswer) (cells′ counters′ : List ℕ) → grid.Write b k cells counters answer cells′ counters′
+    → record {
+      numbers = answer .number ∷ answer .levels ∷ answer .faults ∷ [];
+      buffers = cells′ ∷ counters′ ∷ byNumber (answer .number) (countersIn b k counters′ ∷ []) [];
+    } ≡ l
+
+-- each of these rows is promised
+abbrev pub Every : List Row → Type 0
+Every [] = Unit {0}
+Every (r ∷ rs) = Promised (r .call) (r .expected) × Every rs
+
+abbrev pub EveryPromise : Type 0
+EveryPromise = Every table
