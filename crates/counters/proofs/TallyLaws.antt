@@ -1,12 +1,13 @@
 -- Laws of the loops that count the levels that took a line, and put the counters in order. Assumes nothing.
-use mathlib.Core.Path.{_≡_, refl, sym, ap, _∙_}
-use mathlib.Core.List.{List, _++_, append-assoc, append-nil}
-use Prim.Native.Nat.{ℕ, zero, suc, _+_, _/_, _%_, _^_, _<_}
+use mathlib.Core.Path.{_≡_, refl, ap, ap₂, subst, _∙_}
+use mathlib.Core.List.{List, _++_}
+use Prim.Native.Nat.{ℕ, _+_, _/_, _%_, _^_}
 use native.Mathlib.Omega.{arith}
 use native.Mathlib.Numerals.{add-one}
-use lib.ListN.{length, getD, take, set}
-use lib.Seq.{take-suc-set}
+use lib.ListN.{getD, take}
+use lib.Seq.{take-append-seam, take-append-add}
 use Rattle.bits.specs.Bits.{num, sum, has, list}
+use Rattle.bits.proofs.BoundLaws.{length-list}
 use Rattle.bits.proofs.TestLaws.{num-eqb}
 use Rattle.rdis.specs.Packing.{inOrder}
 use Rattle.counters.specs.Promises.{times}
@@ -19,17 +20,14 @@ pub times-step : (sets : List ℕ) (m i n : ℕ) → n ≡ times sets m i → n 
 unfolding times sum has
 times-step sets m i n e = rw (add-one) (omega (arith, e, num-eqb (getD sets m 0 / 2 ^ i % 2) (omega arith)))
 
--- counters put into a list from `at` on: none, one more, all
-pub put-none : (at : ℕ) (f : ℕ → ℕ) (c : List ℕ) → take (at + 0) c ≡ take at c ++ list 0 f
-unfolding list
-put-none at f c = let e : at + 0 ≡ at = omega arith in rw (e, append-nil)
+front : (n : ℕ) (f : ℕ → ℕ) (rest : List ℕ) → take n (list n f ++ rest) ≡ list n f
+front n f rest = subst (λ k. take k (list n f ++ rest) ≡ list n f) (length-list n f) (take-append-seam (list n f) rest)
 
-pub put-more : (at i v : ℕ) (f : ℕ → ℕ) (c out : List ℕ) → at + i < length out → take (at + i) out ≡ take at c ++ list i f → v ≡ f i
-    → take (at + (i + 1)) (set out (at + i) v) ≡ take at c ++ list (i + 1) f
-unfolding list
-put-more at i v f c out l h e =
-    let q : at + suc i ≡ suc (at + i) = omega arith in
-    rw (add-one, q, take-suc-set out (at + i) v l, h, e, append-assoc)
-
-pub in-order : (m n : ℕ) (f g : ℕ → ℕ) (zeros c r : List ℕ) → take (0 + m) c ≡ take 0 zeros ++ list m f → take (m + n) r ≡ take m c ++ list n g → take (m + n) r ≡ inOrder m n f g
-in-order m n f g zeros c r p q = let e : 0 + m ≡ m = omega arith in q ∙ ap (λ l. l ++ list n g) (ap (λ x. take x c) (sym e) ∙ p)
+-- two parts of a list filled, one behind the other
+pub in-order : (m n : ℕ) {m′ n′ : ℕ} (f g : ℕ → ℕ) {rows columns : List ℕ} (over rest : List ℕ) → rows ≡ list m′ f → m′ ≡ m → columns ≡ list n′ g → n′ ≡ n
+    → take (m + n) (take m (rows ++ over) ++ (columns ++ rest)) ≡ inOrder m n f g
+in-order m n f g over rest p d q e =
+    ap₂ (λ (a b : List ℕ). take (m + n) (take m (a ++ over) ++ (b ++ rest))) (p ∙ ap (λ k. list k f) d) (q ∙ ap (λ k. list k g) e)
+    ∙ ap (λ l. take (m + n) (l ++ (list n g ++ rest))) (front m f over)
+    ∙ subst (λ k. take (k + n) (list m f ++ (list n g ++ rest)) ≡ list m f ++ take n (list n g ++ rest)) (length-list m f) (take-append-add (list m f) (list n g ++ rest) n)
+    ∙ ap (λ l. list m f ++ l) (front n g rest)

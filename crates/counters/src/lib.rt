@@ -12,7 +12,7 @@ pub struct Counters {
     pub held: [u8; 128],
 }
 
-// Whether so many bytes are what `count` counters take. A block has at most 128 counters.
+// Whether so many bytes are what `count` counters take. A block has at most 128, tested first: the bits of more might overflow.
 pub fn fits(k: usize, count: usize, bytes: usize) -> bool
     ensures { λ r. ⌜ r ≡ fit k count bytes ⌝ }
 {
@@ -22,7 +22,7 @@ pub fn fits(k: usize, count: usize, bytes: usize) -> bool
     bytes == packing::bytes_for(packing::width(k), count)
 }
 
-// The refusal of bytes of the right length, by whether their spare bits are 0 and whether no counter is above K.
+// The refusal of bytes of the right length, the lowest that applies: 3 for a spare bit that is set, 4 for a counter above K.
 fn refusal(clear: bool, low: bool) -> usize
     ensures { λ r. ⌜ r ≡ cond clear (cond low 0 4) 3 ⌝ }
 {
@@ -32,7 +32,7 @@ fn refusal(clear: bool, low: bool) -> usize
     if low { 0 } else { 4 }
 }
 
-// The `count` counters that bytes hold, judged.
+// The `count` counters that bytes hold, judged. They are handed out refused or not, but for bytes of a wrong length, which hold none.
 pub fn unpack(k: usize, count: usize, bytes: &[u8]) -> Counters
     ensures { λ r. ⌜ Unpack k count (now (bytes .entry)) r ⌝ }
 {
@@ -51,7 +51,7 @@ pub fn unpack(k: usize, count: usize, bytes: &[u8]) -> Counters
     Counters { number, held }
 }
 
-// Whether there is room for the counters, and a counter's bits hold the number of the levels.
+// Whether there is room for the counters, and a counter's bits hold the number of the levels. Sizes first: `rows + columns` of any might overflow.
 fn packable(k: usize, rows: usize, columns: usize, used: usize, bytes: usize) -> bool
     ensures { λ r. ⌜ r ≡ isPackable k rows columns used bytes ⌝ }
 {
@@ -74,7 +74,7 @@ pub fn pack(
     ensures { λ _. ⌜ Pack k rows columns used rowsets columnsets (now (out .entry)) (now (out .exit)) ⌝ }
 {
     if packable(k, rows, columns, used, out.len()) {
-        let counters = tally::counters(rowsets, columnsets, used, rows, columns);
+        let counters = tally::counters(&rowsets, &columnsets, used, rows, columns);
         packing::pack(counters, packing::width(k), rows + columns, out);
     }
 }

@@ -23,13 +23,14 @@ pub fn bytes_for(width: usize, count: usize) -> usize
     (width * count + 7) / 8
 }
 
+// A byte as a number, in a function: of `wide(s[i])` only the index is to be proved, of `s[i] as usize` the element's bound too.
 fn wide(x: u8) -> usize
     ensures { λ r. ⌜ r ≡ x ⌝ }
 {
     x as usize
 }
 
-// The digit at `i`, moved up by `at` bits, and 0 past the end.
+// The digit at `i`, moved up by `at` bits, and 0 past the end. It is below 2^24 (8 bits, moved by at most 15), so the sum of at most 16 in `bits_at` does not overflow.
 fn digit_at(s: &[u8], i: usize, at: usize) -> usize
     requires { ⌜ at < 16 ⌝ }
     ensures { λ r. ⌜ r ≡ getD (now (s .entry)) i 0 * 2 ^ at ⌝ }

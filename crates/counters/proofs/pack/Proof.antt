@@ -20,22 +20,23 @@ pack-spec =
     -- packable-requires
     (λ c κs. search needs)
     -- counters-requires
-    (λ c κs. (room c .levels, room c .rows, room c .columns))
+    (λ c κs. let r = room (c .before .before) in (r .levels, r .rows, r .columns))
     -- width-requires
     (λ c κs. search needs)
     -- add-pack
-    (λ c. omega (arith, room (c .before .before) .rows, room (c .before .before) .columns))
+    (λ c. let r = room (c .before .before .before .before) in omega (arith, r .rows, r .columns))
     -- pack-requires
-    (λ c κs. let r = room (c .before .before .before) in
-    let a = c .before .before .before .before .before .before .args in
+    (λ c κs. let t = c .before .before .before .before .before in
+    let r = room t in
+    let a = t .before .before .before .args in
     let w = c .before .width .ensures in (
       (omega (arith, w, width-some (a .k)), omega (arith, w, width-few (a .k)), omega (arith, r .rows, r .columns), rw w (r .size)),
-      rw (w, c .before .before .counters .ensures) (counters-fit (a .k) (a .rows) (a .columns) (a .used) (a .rowsets) (a .columnsets) (r .bits)),
+      rw (w, c .before .before .counters .ensures) (counters-fit (a .k) (a .rows) (a .columns) (a .used) (a .t5) (a .t6) (r .bits)),
     ))
     -- same-length
     (λ c. search needs)
     -- returns
-    (λ c. let t = c .before .before .before .before .before .before in
+    (λ c. let t = c .before .before .before .before .before .before .before .before in
     let w = c .before .before .before .before .width .ensures in
     record {
       bytes = λ _. c .before .before .pack .ensures ∙ rw (w, c .before .before .before .before .before .counters .ensures) refl;
