@@ -75,6 +75,6 @@ pub fn pack(
 {
     if packable(k, rows, columns, used, out.len()) {
         let counters = tally::counters(&rowsets, &columnsets, used, rows, columns);
-        packing::pack(counters, packing::width(k), rows + columns, out);
+        packing::pack(&counters[..rows + columns], packing::width(k), out);
     }
 }

@@ -3,7 +3,7 @@ ghost use mathlib.Core.Path.{_≡_};
 ghost use mathlib.Core.Bool.{not};
 ghost use mathlib.Core.List.{_++_};
 ghost use Prim.Native.Nat.{_+_, _-_, _*_, _/_, _%_, _^_, _≤_, _<_};
-ghost use lib.ListN.{length, getD, take, replicate};
+ghost use lib.ListN.{length, getD, replicate};
 ghost use lib.Dec.{ltb};
 ghost use Rattle.bits.specs.Bits.{some, number, digits, Below};
 ghost use Rattle.rdis.specs.Packing.{width as widthOf, bytesFor, packed, unpacked, spareClear};
@@ -87,13 +87,13 @@ pub fn unpack(bytes: &[u8], width: usize, count: usize) -> [u8; 128]
     out
 }
 
-// Writes the bytes of the first `count` counters.
-pub fn pack(counters: [u8; 128], width: usize, count: usize, out: &mut [u8])
-    requires { ⌜ (0 < width) × (width ≤ 8) × (count ≤ 128) × (length (now out) ≡ bytesFor width count) ⌝ }
-    requires { ⌜ Below (2 ^ width) (take count counters) ⌝ }
-    ensures { λ _. ⌜ now (out .exit) ≡ packed width (take count counters) ⌝ }
+// Writes the bytes of the counters.
+pub fn pack(counters: &[u8], width: usize, out: &mut [u8])
+    requires { ⌜ (0 < width) × (width ≤ 8) × (length (now counters) ≤ 128) × (length (now out) ≡ bytesFor width (length (now counters))) ⌝ }
+    requires { ⌜ Below (2 ^ width) (now counters) ⌝ }
+    ensures { λ _. ⌜ now (out .exit) ≡ packed width (now (counters .entry)) ⌝ }
 {
-    rebase(&counters[..count], width, out, 8);
+    rebase(counters, width, out, 8);
 }
 
 // The bits past the last counter are 0.
