@@ -1,20 +1,19 @@
--- Laws of what is stored and shown: parities of crossings, words of a row, and buffers of rows. Assumes nothing.
+-- Laws of what is stored: parities of crossings, and words of a row. Assumes nothing.
 use mathlib.Core.Path.{_≡_, refl, ap, ap₂, _∙_}
 use mathlib.Core.Bool.{Bool, true, false, not, xor, cond, _&&_, _||_}
 use mathlib.Core.List.{List}
-use Prim.Native.Nat.{ℕ, zero, suc, _+_, _/_, _%_, _^_, _<_, min}
+use Prim.Native.Nat.{ℕ, zero, suc, _+_, _/_, _%_, _^_, _<_}
 use native.Mathlib.Omega.{arith}
 use native.Mathlib.Numerals.{add-one}
 use lib.Bits.{bitAnd, bitOr, bitXor, or-lt, xor-lt, and-lt}
 use lib.Dec.{eqb}
-use lib.ListN.{length, getD, take, set}
+use lib.ListN.{getD}
 use lib.Pow.{pow-pos}
-use Rattle.bits.specs.Bits.{num, sum, has, word, words}
+use Rattle.bits.specs.Bits.{num, sum, has, word}
 use Rattle.bits.proofs.TestLaws.{xor-true, xor-false}
 use Rattle.bits.proofs.BitLaws.{has-and, has-or, has-xor, has-zero, has-word, is-word, word-lt, word-ext}
-use Rattle.bits.proofs.ByteLaws.{words-more, words-done}
 use Rattle.rdis.specs.Block.{bit}
-use Rattle.grid.specs.Steps.{crossings, heldBy, shownBy}
+use Rattle.grid.specs.Steps.{crossings, heldBy}
 
 -- ---- the parity of crossings
 
@@ -79,17 +78,3 @@ unfolding heldBy bit
 stored-row d mask values rows columns n i p v e h =
     h ∙ word-ext 64 (λ j. cond (has (getD mask i 0) j) (has (getD values i 0) j) (xor (has p j) (has (getD d i 0) j))) (heldBy d mask values rows columns n i)
     (λ j l. ap (λ t. cond (has (getD mask i 0) j) (has (getD values i 0) j) (xor t (has (getD d i 0) j))) (ap (λ y. has y j) e ∙ has-word 64 (odd rows columns n i) j l))
-
--- ---- rows shown and stored, one after the other
-
-pub show-more : (n i v : ℕ) (counters cells out : List ℕ) → i < length out
-    → take i out ≡ words i n (λ i j. xor (eqb (min (getD counters i 0) (getD counters (length cells + j) 0) % 2) 1) (bit cells i j))
-    → v ≡ word n (λ j. xor (eqb (min (getD counters i 0) (getD counters (length cells + j) 0) % 2) 1) (has (getD cells i 0) j))
-    → take (i + 1) (set out i v) ≡ words (i + 1) n (λ i j. xor (eqb (min (getD counters i 0) (getD counters (length cells + j) 0) % 2) 1) (bit cells i j))
-unfolding bit
-show-more n i v counters cells out l h e = words-more i n (λ i j. xor (eqb (min (getD counters i 0) (getD counters (length cells + j) 0) % 2) 1) (bit cells i j)) v out l h e
-
-pub show-done : (n i : ℕ) (counters cells out : List ℕ) → length out ≡ length cells → i ≡ length cells
-    → take i out ≡ words i n (λ i j. xor (eqb (min (getD counters i 0) (getD counters (length cells + j) 0) % 2) 1) (bit cells i j)) → out ≡ shownBy n counters cells
-unfolding shownBy
-show-done n i counters cells out l e h = words-done i (length cells) n (λ i j. xor (eqb (min (getD counters i 0) (getD counters (length cells + j) 0) % 2) 1) (bit cells i j)) out l e h

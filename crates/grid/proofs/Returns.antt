@@ -21,7 +21,9 @@ use Rattle.gridcalls.specs.Calls.{inRange, sized, past, readSized, above as gri
 use Rattle.gridcalls.specs.Refusals.{ReadLengths, WriteLengths}
 use Rattle.gridcalls.specs.Promises.{Read, Write}
 use Rattle.gridjudge.specs.Numbers.{judged, readJudged, writeJudged}
-use Rattle.grid.specs.Steps.{ReadSized, WriteSized, shownBy}
+use Rattle.gridshow.specs.Promises.{shownBy, Show}
+use Rattle.gridshow.proofs.ShowLaws.{can-show}
+use Rattle.grid.specs.Steps.{ReadSized, WriteSized}
 use Rattle.gridcalls.specs.declared.ReadAnswer.{ReadAnswer}
 use Rattle.gridcalls.specs.declared.WriteAnswer.{WriteAnswer}
 use Rattle.gridcalls.proofs.RefusalLaws.{in-range, read-sized, write-sized}
@@ -104,13 +106,15 @@ module _ (n k : ℕ) (cells counters out : List ℕ) (p : ReadSized n k cells co
         rw (u .counters (fits-in (length cells) n k counters (p .ranges) (p .sizes)))
         (List·getD-append (unpacked (width k) (length cells + n) counters) (replicate (128 - (length cells + n)) 0) 0 t (rw length-list l) ∙ counter-unpacked (width k) (length cells + n) t counters l)
 
-    pub accepted-read : (after : List ℕ) → c .number ≡ 0 → after ≡ shownBy n (c .held) cells → Read (length cells) n k cells counters out (record { number = c .number }) after
+    pub accepted-read : (after : List ℕ) → c .number ≡ 0 → Show n cells (c .held) out after → Read (length cells) n k cells counters out (record { number = c .number }) after
     unfolding shownBy reading flips
-    accepted-read after z s = read-demands (length cells) n k cells counters out (record { number = c .number }) after (record {
-      number = number-is;
-      untouched = λ l. absurd (omega (arith, z));
-      shown = λ _. s ∙ words-ext (length cells) n _ _ (λ i j q r. ap₂ (λ x y. xor (eqb (min x y % 2) 1) (bit cells i j)) (counter-is i (omega arith)) (counter-is (length cells + j) (omega arith)));
-    })
+    accepted-read after z s =
+        let r = in-range (length cells) n k .0 (p .ranges) in
+        read-demands (length cells) n k cells counters out (record { number = c .number }) after (record {
+          number = number-is;
+          untouched = λ l. absurd (omega (arith, z));
+          shown = λ _. s .shown (can-show n (length cells) (length out) (r .columns .1) (r .rows .1) (p .room)) ∙ words-ext (length cells) n _ _ (λ i j q r. ap₂ (λ x y. xor (eqb (min x y % 2) 1) (bit cells i j)) (counter-is i (omega arith)) (counter-is (length cells + j) (omega arith)));
+        })
 
 -- ---- a write
 

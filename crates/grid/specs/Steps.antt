@@ -5,7 +5,7 @@ use mathlib.Core.Bool.{Bool, true, false, xor, cond, _&&_}
 use mathlib.Core.List.{List}
 use lib.ListN.{length, getD}
 use lib.Dec.{eqb}
-use Rattle.bits.specs.Bits.{num, sum, has, words}
+use Rattle.bits.specs.Bits.{num, sum, has}
 use Rattle.rdis.specs.Block.{Block, bit}
 use Rattle.rdis.specs.Levels.{Subgrid, Outcome, masked, unmaskable, levels}
 use Rattle.rdis.specs.Packing.{width, bytesFor}
@@ -66,7 +66,3 @@ pub record Planned (d mask values : List ℕ) (s : Sub) (w : Bool) (k : ℕ) (t 
 -- what a cell holds, by the sets
 unfoldable pub heldBy : List ℕ → List ℕ → List ℕ → List ℕ → List ℕ → ℕ → ℕ → ℕ → Bool
 heldBy d mask values rows columns n i j = cond (bit mask i j) (bit values i j) (xor (eqb (crossings rows columns n i j % 2) 1) (bit d i j))
-
--- what cells of n columns show, by counters: the first one is row 0's
-unfoldable pub shownBy : ℕ → List ℕ → List ℕ → List ℕ
-shownBy n counters cells = words (length cells) n (λ i j. xor (eqb (min (getD counters i 0) (getD counters (length cells + j) 0) % 2) 1) (bit cells i j))

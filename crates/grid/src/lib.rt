@@ -42,7 +42,7 @@ fn read_sized(columns: usize, k: usize, cells: &[u64], counters: &[u8], out: &mu
     let c = counters::unpack(k, cells.len() + columns, counters);
     let held = c.held; // an array in a field is lent by a variable
     if c.number == 0 {
-        pattern::show(columns, cells, &held, out);
+        gridshow::show(columns, cells, &held, out);
     }
     c.number
 }

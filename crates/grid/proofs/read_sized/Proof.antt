@@ -37,7 +37,7 @@ read-sized-spec =
     -- unpack-requires
     (λ c κs. search needs)
     -- show-requires
-    (λ c κs. let s = begin (c .before .before .before .before .before .before) in (range s .columns .1, range s .rows .1, s .pre .room))
+    (λ c κs. search needs)
     -- same-length
     (λ c. search needs)
     -- returns-2

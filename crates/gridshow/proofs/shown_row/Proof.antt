@@ -1,14 +1,14 @@
-use mathlib.Core.Path.{_≡_, refl, ap, ap₂, _∙_}
+use mathlib.Core.Path.{_≡_, refl, sym, ap, _∙_}
 use mathlib.Core.Bool.{Bool, xor}
+use mathlib.Core.Logic.{⊎-elim}
 use Prim.Native.Nat.{ℕ, _≤_, _-_, _+_, _%_, min}
 use native.Mathlib.Omega.{arith}
-use lib.Bits.{bitOr}
 use lib.Dec.{eqb}
 use lib.ListN.{getD}
 use Rattle.bits.specs.Bits.{has, word}
-use Rattle.bits.proofs.BitLaws.{word-more}
-use Rattle.grid.proofs.pattern.shown_row.Statement.{statement}
-use Rattle.grid.proofs.pattern.shown_row.Tie as tie
+use Rattle.gridshow.proofs.ShowLaws.{bit-set, bit-not-set}
+use Rattle.gridshow.proofs.shown_row.Statement.{statement}
+use Rattle.gridshow.proofs.shown_row.Tie as tie
 
 abbrev Inv-loop : tie.InvT-loop
 Inv-loop w columns r counters rows v₀ j₀ v j = (j ≤ columns) × (v ≡ word j (λ j. xor (eqb (min r (getD counters (rows + j) 0) % 2) 1) (has w j)))
@@ -29,12 +29,12 @@ shown-row-spec =
     loop-holds
     -- add-shown
     (λ c. omega arith)
-    -- array-read-shown
+    -- element-copy-out-shown
     (λ c. omega arith)
     -- shown-requires
     (λ c κs. omega arith)
-    -- mark-if-requires
-    (λ c κs. omega arith)
+    -- shl-v
+    (λ c. omega arith)
     -- add-j
     (λ c. omega arith)
     -- loop-less
@@ -43,8 +43,11 @@ shown-row-spec =
     (λ c.
     let a = c .before .before .before .before .before .args in
     let l = c .before .before .before .before .loop in
-    let f : ℕ → Bool = λ j. xor (eqb (min (a .r) (getD (a .counters .now) (a .rows + j) 0) % 2) 1) (has (a .w) j) in
-    (omega arith, ap₂ bitOr (c .mark-if .ensures) (l .inv .1) ∙ word-more (l .j) f (c .before .shown .result) (c .before .shown .ensures)))
+    let f : ℕ → Bool = λ j. xor (eqb (min (a .r) (getD (a .counters .now) (a .rows + j) 0) % 2) 1) (has (a .w) j) in (
+      omega arith,
+      ⊎-elim (λ (t, e). e ∙ bit-set (l .j) (l .v) f (omega arith) (l .inv .1) (sym (t .taken) ∙ c .before .shown .ensures))
+          (λ (t, e). e ∙ bit-not-set (l .j) (l .v) f (l .inv .1) (sym (t .left) ∙ c .before .shown .ensures)) (c .if1 .came),
+    ))
     -- returns
     (λ c.
     let a = c .before .before .args in

@@ -2,8 +2,8 @@ use borrow.Author.Needs.{needs}
 use mathlib.Core.Path.{ap}
 use mathlib.Core.Bool.{xor}
 use Rattle.bits.specs.Bits.{has}
-use Rattle.grid.proofs.pattern.shown.Statement.{statement}
-use Rattle.grid.proofs.pattern.shown.Tie as tie
+use Rattle.gridshow.proofs.shown.Statement.{statement}
+use Rattle.gridshow.proofs.shown.Tie as tie
 
 pub shown-spec : {M : Type 1} → statement M
 unfolding xor

@@ -7,9 +7,9 @@ use lib.Dec.{eqb}
 use lib.ListN.{length, getD, take, length-set}
 use Rattle.bits.specs.Bits.{list, words}
 use Rattle.rdis.specs.Block.{bit}
-use Rattle.grid.proofs.PatternLaws.{show-more, show-done}
-use Rattle.grid.proofs.pattern.show.Statement.{statement}
-use Rattle.grid.proofs.pattern.show.Tie as tie
+use Rattle.gridshow.proofs.ShowLaws.{show-more, show-done}
+use Rattle.gridshow.proofs.fill.Statement.{statement}
+use Rattle.gridshow.proofs.fill.Tie as tie
 
 abbrev Inv-loop : tie.InvT-loop
 Inv-loop columns cells counters out₀ i₀ out i =
@@ -23,8 +23,8 @@ loop-holds : tie.Need-loop-holds Inv-loop μ-loop
 unfolding words list
 loop-holds c = (omega arith, c .before .before .pre .2, refl)
 
-pub show-spec : {M : Type 1} → statement M
-show-spec =
+pub fill-spec : {M : Type 1} → statement M
+fill-spec =
     tie.close
     (tie.spec
     Inv-loop

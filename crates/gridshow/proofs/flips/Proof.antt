@@ -2,8 +2,8 @@ use mathlib.Core.Path.{_≡_, ap}
 use Prim.Native.Nat.{_%_, min}
 use native.Mathlib.Omega.{arith}
 use lib.Dec.{eqb}
-use Rattle.grid.proofs.pattern.flips.Statement.{statement}
-use Rattle.grid.proofs.pattern.flips.Tie as tie
+use Rattle.gridshow.proofs.flips.Statement.{statement}
+use Rattle.gridshow.proofs.flips.Tie as tie
 
 pub flips-spec : {M : Type 1} → statement M
 flips-spec =
