@@ -7,10 +7,10 @@ use borrow.Author.Tests.{eq-eqb, le-ltb}
 use lib.ListN.{length}
 use Rattle.bits.proofs.BoundLaws.{some-none}
 use Rattle.bits.proofs.TestLaws.{clash}
-use Rattle.rdis.specs.Packing.{width, bytesFor, inOrder, counter}
+use Rattle.rdis.specs.Packing.{width, bytesFor, inOrder, counter, above}
 use Rattle.rdis.specs.Theorems.{Packs}
 use Rattle.rdis.proofs.PackingLaws.{packed-only, counter-packed, length-in-order, in-order-below}
-use Rattle.counters.specs.Promises.{fit, above, unpackNumber, times, packable, ReadsBack, OneUnpack, OnePack}
+use Rattle.counters.specs.Promises.{fit, unpackNumber, times, packable, ReadsBack, OneUnpack, OnePack}
 use Rattle.counters.proofs.PromiseLaws.{has-room, fit-few, times-few, counters-fit}
 
 pub reads-back : ReadsBack

@@ -11,9 +11,9 @@ use lib.Pow.{pow-pos}
 use Rattle.bits.specs.Bits.{some, has, num, Below}
 use Rattle.bits.proofs.TestLaws.{clash, and-left, and-right}
 use Rattle.bits.proofs.BoundLaws.{some-ext, length-list, sum-num-le}
-use Rattle.rdis.specs.Packing.{width, bytesFor, inOrder, counter, unpacked, spareClear}
+use Rattle.rdis.specs.Packing.{width, bytesFor, inOrder, counter, unpacked, spareClear, above}
 use Rattle.rdis.proofs.PackingLaws.{counter-unpacked, in-order-below}
-use Rattle.counters.specs.Promises.{fit, above, unpackNumber, Unpack, times, few, packable}
+use Rattle.counters.specs.Promises.{fit, unpackNumber, Unpack, times, few, packable}
 
 -- ---- lengths
 

@@ -5,8 +5,8 @@ use mathlib.Core.Bool.{Bool, true, false, not, cond, _&&_}
 use mathlib.Core.List.{List, _++_}
 use lib.ListN.{length, getD, replicate}
 use lib.Dec.{eqb, leb, ltb}
-use Rattle.bits.specs.Bits.{num, has, some, sum}
-use Rattle.rdis.specs.Packing.{width, bytesFor, inOrder, packed, counter, unpacked, spareClear}
+use Rattle.bits.specs.Bits.{num, has, sum}
+use Rattle.rdis.specs.Packing.{width, bytesFor, inOrder, packed, unpacked, above, spareClear}
 use Rattle.counters.specs.declared.Counters.{Counters}
 
 -- ---- from bytes to counters
@@ -14,10 +14,6 @@ use Rattle.counters.specs.declared.Counters.{Counters}
 -- so many bytes are what n counters take, of which a block has at most 128
 unfoldable pub fit : ℕ → ℕ → ℕ → Bool
 fit k n bytes = leb n 128 && eqb bytes (bytesFor (width k) n)
-
--- one of the n counters is above K
-unfoldable pub above : ℕ → ℕ → List ℕ → Bool
-above k n bs = some n (λ t. ltb k (counter (width k) bs t))
 
 -- the refusal of bytes that should hold n counters: a wrong length, a spare bit that is set, a counter above K
 unfoldable pub unpackNumber : ℕ → ℕ → List ℕ → ℕ

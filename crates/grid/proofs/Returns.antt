@@ -14,10 +14,10 @@ use Rattle.rdis.specs.Levels.{masked, unmaskable, plan}
 use Rattle.rdis.specs.Cells.{flips, stored, reading}
 use Rattle.rdis.specs.Packing.{width, bytesFor, inOrder, packed, counter, unpacked}
 use Rattle.rdis.proofs.PackingLaws.{counter-unpacked}
-use Rattle.counters.specs.Promises.{fit, above as countersAbove, unpackNumber, Unpack}
+use Rattle.counters.specs.Promises.{fit, unpackNumber, Unpack}
 use Rattle.counters.specs.declared.Counters.{Counters}
 use Rattle.counters.proofs.PromiseLaws.{fit-few}
-use Rattle.gridcalls.specs.Calls.{inRange, sized, past, readSized, above as gridAbove, writeSized, block, writePast, readNumber, writeNumber}
+use Rattle.gridcalls.specs.Calls.{inRange, sized, past, readSized, writeSized, block, writePast, readNumber, writeNumber}
 use Rattle.gridcalls.specs.Refusals.{ReadLengths, WriteLengths}
 use Rattle.gridcalls.specs.Promises.{Read, Write}
 use Rattle.gridjudge.specs.Numbers.{judged, readJudged, writeJudged}
@@ -94,7 +94,7 @@ module _ (n k : ℕ) (cells counters out : List ℕ) (p : ReadSized n k cells co
   -- within the columns the counters decide
   module _ (within : past n cells ≡ false) (c : Counters) (u : Unpack k (length cells + n) counters c) where
     number-is : c .number ≡ readNumber (length cells) n k cells counters (length out)
-    unfolding readNumber unpackNumber gridAbove countersAbove
+    unfolding readNumber unpackNumber
     number-is = u .number ∙ rw (fits-in (length cells) n k counters (p .ranges) (p .sizes), p .ranges, sizes, within)
 
     pub read-refused : (c .number ≡ 0 → ⊥) → Read (length cells) n k cells counters out (record { number = c .number }) out

@@ -6,8 +6,8 @@ use mathlib.Core.List.{List, [], _∷_}
 use Rattle.bits.specs.Bits.{some, list, has, word, number}
 use Rattle.rdis.specs.Block.{bit, differs, faulty}
 use Rattle.rdis.specs.Levels.{whole, takes, taken, left, levels, plan}
-use Rattle.rdis.specs.Packing.{width, bytesFor, counter, spareClear}
-use Rattle.gridcalls.specs.Calls.{inRange, sized, past, above, readNumber, block, writeNumber}
+use Rattle.rdis.specs.Packing.{width, bytesFor, counter, spareClear, above}
+use Rattle.gridcalls.specs.Calls.{inRange, sized, past, readNumber, block, writeNumber}
 
 abbrev zeros : ℕ → List ℕ
 zeros n = list n (λ _. 0)

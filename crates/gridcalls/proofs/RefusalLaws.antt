@@ -19,9 +19,9 @@ use Rattle.bits.proofs.ByteLaws.{past-end, below-all}
 use Rattle.rdis.specs.Block.{Block, bit}
 use Rattle.rdis.specs.Levels.{Outcome, masked, unmaskable, plan}
 use Rattle.rdis.specs.Chains.{HasChain}
-use Rattle.rdis.specs.Packing.{width, bytesFor, counter, spareClear}
+use Rattle.rdis.specs.Packing.{width, bytesFor, counter, spareClear, above}
 use Rattle.rdis.proofs.LevelLaws.{refused-by-chain}
-use Rattle.gridcalls.specs.Calls.{between, inRange, sized, past, readSized, readPast, above, readNumber, writeSized, writePast, refusal, writeNumber}
+use Rattle.gridcalls.specs.Calls.{between, inRange, sized, past, readSized, readPast, readNumber, writeSized, writePast, refusal, writeNumber}
 use Rattle.gridcalls.specs.Refusals.{InRange, ReadLengths, WriteLengths, Past, Spare, ReadRefused, rangeRead, lengthRead, pastRead, spareRead, aboveRead, WriteRefused, rangeWrite, lengthWrite, pastWrite, chainWrite}
 
 -- ---- each test
@@ -81,7 +81,7 @@ read-past-iff m n k cells counters = or-iff _ (past-iff n cells) _ (spare-iff (w
 write-past-iff : (b : Block) → (writePast b ≡ true) ↔ (Past (b .columns) (b .data·) ⊎ (Past (b .columns) (b .mask) ⊎ Past (b .columns) (b .values)))
 write-past-iff b = or-iff _ (past-iff (b .columns) (b .data·)) _ (or-iff _ (past-iff (b .columns) (b .mask)) _ (past-iff (b .columns) (b .values)))
 
-above-iff : (m n k : ℕ) (counters : List ℕ) → (above m n k counters ≡ true) ↔ ((t : ℕ) × (t < m + n) × (k < counter (width k) counters t))
+above-iff : (m n k : ℕ) (counters : List ℕ) → (above k (m + n) counters ≡ true) ↔ ((t : ℕ) × (t < m + n) × (k < counter (width k) counters t))
 unfolding above
 above-iff m n k counters = some-iff (m + n) _ _ (λ t. ltb-iff k (counter (width k) counters t))
 

@@ -3,11 +3,11 @@ use Prim.Native.Nat.{ℕ, _+_, _^_}
 use mathlib.Core.Bool.{Bool, not, cond, _&&_, _||_}
 use mathlib.Core.List.{List}
 use lib.ListN.{length, getD}
-use lib.Dec.{eqb, leb, ltb}
+use lib.Dec.{eqb, leb}
 use Rattle.bits.specs.Bits.{some}
 use Rattle.rdis.specs.Block.{Block}
 use Rattle.rdis.specs.Levels.{Outcome, masked, unmaskable, plan}
-use Rattle.rdis.specs.Packing.{width, bytesFor, counter, spareClear}
+use Rattle.rdis.specs.Packing.{width, bytesFor, above, spareClear}
 
 -- ---- what is judged. m are the rows, n the columns, k is K
 
@@ -37,14 +37,10 @@ readSized m n k cells counters out = sized m n k cells counters && eqb out m
 abbrev pub readPast : ℕ → ℕ → ℕ → List ℕ → List ℕ → Bool
 readPast m n k cells counters = past n cells || not (spareClear (width k) (m + n) counters)
 
--- refusal 4 applies: one of the counters that the bytes hold is above K
-unfoldable pub above : ℕ → ℕ → ℕ → List ℕ → Bool
-above m n k counters = some (m + n) (λ t. ltb k (counter (width k) counters t))
-
 unfoldable pub readNumber : ℕ → ℕ → ℕ → List ℕ → List ℕ → ℕ → ℕ
 readNumber m n k cells counters out =
     cond (not (inRange m n k)) 1
-    (cond (not (readSized m n k (length cells) (length counters) out)) 2 (cond (readPast m n k cells counters) 3 (cond (above m n k counters) 4 0)))
+    (cond (not (readSized m n k (length cells) (length counters) out)) 2 (cond (readPast m n k cells counters) 3 (cond (above k (m + n) counters) 4 0)))
 
 -- ---- the number of a write: of the old cells and the old counters only the lengths count
 
