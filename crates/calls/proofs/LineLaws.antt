@@ -7,8 +7,8 @@ use native.Mathlib.Omega.{arith}
 use lib.ListN.{length, getD, List·getD-append}
 use Rattle.bits.specs.Bits.{list}
 use Rattle.bits.proofs.BoundLaws.{list-ext}
-use Rattle.pointercalls.proofs.Unique as pointer
-use Rattle.gridcalls.proofs.OneAnswer as grid
+use Rattle.pointer_promises.proofs.Unique as pointer
+use Rattle.grid_promises.proofs.OneAnswer as grid
 use Rattle.calls.specs.declared.input.WritePlaces.{WritePlaces}
 use Rattle.calls.specs.declared.input.ReadPlaces.{ReadPlaces}
 use Rattle.calls.specs.Format.{numberAt, callNumber, many, Stands, elements, callEnd}

@@ -5,9 +5,9 @@ use mathlib.Core.List.{List, [], _∷_}
 use Prim.Native.Nat.{ℕ, _+_, _*_, _≤_}
 use lib.ListN.{length, getD, take}
 use Rattle.io.specs.Counts.{Counts}
-use Rattle.pointercalls.specs.Promises as pointer
-use Rattle.gridcalls.specs.Promises as grid
-use Rattle.gridcalls.specs.Calls.{block}
+use Rattle.pointer_promises.specs.Promises as pointer
+use Rattle.grid_promises.specs.Promises as grid
+use Rattle.grid_promises.specs.Calls.{block}
 use Rattle.calls.specs.declared.input.WritePlaces.{WritePlaces}
 use Rattle.calls.specs.declared.input.ReadPlaces.{ReadPlaces}
 use Rattle.calls.specs.Format.{callNumber, many, Stands, elements, afterCall, callEnd}

@@ -8,8 +8,8 @@ use Rattle.rdis.specs.Block.{bit, differs, faulty, faults}
 use Rattle.rdis.specs.Levels.{whole, takes, taken, left, levels, plan}
 use Rattle.rdis.specs.Cells.{flips, holds, stored}
 use Rattle.rdis.specs.Packing.{width, bytesFor, packed, counter, unpacked}
-use Rattle.gridcalls.specs.Calls.{inRange, sized, past, writeNumber}
-use Rattle.pointercalls.specs.Pointer as pointer
+use Rattle.grid_promises.specs.Calls.{inRange, sized, past, writeNumber}
+use Rattle.pointer_promises.specs.Pointer as pointer
 use Rattle.cases.specs.Lines.{line}
 use Rattle.cases.specs.Table.{Row, table}
 use Rattle.cases.specs.Statements.{EveryCase, Promised, Every, EveryPromise}

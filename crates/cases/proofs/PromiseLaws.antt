@@ -6,10 +6,10 @@ use mathlib.Core.Logic.{_≢_}
 use native.Mathlib.Omega.{arith}
 use Rattle.bits.proofs.TestLaws.{iff-stable}
 use Rattle.rdis.specs.Block.{Block}
-use Rattle.pointercalls.specs.Pointer.{active, held, encode, verdict}
-use Rattle.pointercalls.specs.Refusals.{InRange, outOfRange}
-use Rattle.pointercalls.proofs.FormedLaws.{active-is}
-use Rattle.pointercalls.proofs.RefusalLaws.{range-iff}
+use Rattle.pointer_promises.specs.Pointer.{active, held, encode, verdict}
+use Rattle.pointer_promises.specs.Refusals.{InRange, outOfRange}
+use Rattle.pointer_promises.proofs.FormedLaws.{active-is}
+use Rattle.pointer_promises.proofs.RefusalLaws.{range-iff}
 use Rattle.cases.specs.Lines.{Line, Call, metadata, pointerRead, pointerWrite, gridWrite, byNumber, countersIn, line}
 use Rattle.cases.specs.Statements.{Promised}
 

@@ -8,8 +8,8 @@ use Rattle.rdis.specs.Block.{Block, faults}
 use Rattle.rdis.specs.Levels.{plan}
 use Rattle.rdis.specs.Cells.{stored}
 use Rattle.rdis.specs.Packing.{width, inOrder, packed, unpacked}
-use Rattle.gridcalls.specs.Calls.{writeNumber, used, rowsOf, columnsOf}
-use Rattle.pointercalls.specs.Pointer as pointer
+use Rattle.grid_promises.specs.Calls.{writeNumber, used, rowsOf, columnsOf}
+use Rattle.pointer_promises.specs.Pointer as pointer
 
 -- a line: the number and the counts, and the buffers afterwards
 pub record Line : Type 0 where

@@ -3,12 +3,12 @@
 use Prim.Native.Nat.{ℕ}
 use mathlib.Core.Path.{_≡_}
 use mathlib.Core.List.{List, [], _∷_, map}
-use Rattle.gridcalls.specs.Promises as grid
-use Rattle.gridcalls.specs.declared.WriteAnswer as gridAnswer
-use Rattle.pointercalls.specs.Pointer.{held, after, verdict}
-use Rattle.pointercalls.specs.Promises as pointer
-use Rattle.pointercalls.specs.declared.ReadAnswer.{ReadAnswer}
-use Rattle.pointercalls.specs.declared.WriteAnswer.{WriteAnswer}
+use Rattle.grid_promises.specs.Promises as grid
+use Rattle.grid_promises.specs.declared.WriteAnswer as gridAnswer
+use Rattle.pointer_promises.specs.Pointer.{held, after, verdict}
+use Rattle.pointer_promises.specs.Promises as pointer
+use Rattle.pointer_promises.specs.declared.ReadAnswer.{ReadAnswer}
+use Rattle.pointer_promises.specs.declared.WriteAnswer.{WriteAnswer}
 use Rattle.cases.specs.Lines.{Line, Call, metadata, pointerRead, pointerWrite, gridWrite, byNumber, countersIn, line}
 use Rattle.cases.specs.Table.{Row, table}
 

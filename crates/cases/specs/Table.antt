@@ -4,8 +4,8 @@ use mathlib.Core.Bool.{true, false}
 use mathlib.Core.List.{List, [], _∷_}
 use lib.ListN.{replicate}
 use Rattle.rdis.specs.Block.{Block}
-use Rattle.gridcalls.specs.Calls.{block}
-use Rattle.pointercalls.specs.Pointer.{entryOf}
+use Rattle.grid_promises.specs.Calls.{block}
+use Rattle.pointer_promises.specs.Pointer.{entryOf}
 use Rattle.cases.specs.Lines.{Line, ones, Call, metadata, pointerRead, pointerWrite, gridWrite}
 
 -- a call, and the line that document 01 gives for it

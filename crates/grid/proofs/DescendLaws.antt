@@ -19,7 +19,7 @@ use Rattle.rdis.proofs.LevelLaws.{levels-none, levels-stop, levels-next, left-r
 use Rattle.rdis.proofs.CounterLaws.{Counts as Tallied, levels-counted}
 use Rattle.grid.specs.declared.levels.Sub.{Sub}
 use Rattle.grid.specs.declared.levels.Taken.{Taken}
-use Rattle.counters.specs.Promises.{times}
+use Rattle.grid_counters.specs.Promises.{times}
 use Rattle.grid.specs.Steps.{blockOf, subgrid, crossings, Follows, Planned}
 
 -- ---- one set more

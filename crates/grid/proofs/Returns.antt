@@ -14,20 +14,20 @@ use Rattle.rdis.specs.Levels.{masked, unmaskable, plan}
 use Rattle.rdis.specs.Cells.{flips, stored, reading}
 use Rattle.rdis.specs.Packing.{width, bytesFor, inOrder, packed, counter, unpacked}
 use Rattle.rdis.proofs.PackingLaws.{counter-unpacked}
-use Rattle.counters.specs.Promises.{fit, unpackNumber, Unpack}
-use Rattle.counters.specs.declared.Counters.{Counters}
-use Rattle.counters.proofs.PromiseLaws.{fit-few}
-use Rattle.gridcalls.specs.Calls.{inRange, sized, past, readSized, writeSized, block, writePast, readNumber, writeNumber}
-use Rattle.gridcalls.specs.Refusals.{ReadLengths, WriteLengths}
-use Rattle.gridcalls.specs.Promises.{Read, Write}
-use Rattle.gridjudge.specs.Numbers.{judged, readJudged, writeJudged}
+use Rattle.grid_counters.specs.Promises.{fit, unpackNumber, Unpack}
+use Rattle.grid_counters.specs.declared.Counters.{Counters}
+use Rattle.grid_counters.proofs.PromiseLaws.{fit-few}
+use Rattle.grid_promises.specs.Calls.{inRange, sized, past, readSized, writeSized, block, writePast, readNumber, writeNumber}
+use Rattle.grid_promises.specs.Refusals.{ReadLengths, WriteLengths}
+use Rattle.grid_promises.specs.Promises.{Read, Write}
+use Rattle.grid_checks.specs.Numbers.{judged, readJudged, writeJudged}
 use Rattle.gridshow.specs.Promises.{shownBy, Show}
 use Rattle.gridshow.proofs.ShowLaws.{can-show}
 use Rattle.grid.specs.Steps.{ReadSized, WriteSized}
-use Rattle.gridcalls.specs.declared.ReadAnswer.{ReadAnswer}
-use Rattle.gridcalls.specs.declared.WriteAnswer.{WriteAnswer}
-use Rattle.gridcalls.proofs.RefusalLaws.{in-range, read-sized, write-sized}
-use Rattle.gridcalls.proofs.Demands.{read-demands, write-demands}
+use Rattle.grid_promises.specs.declared.ReadAnswer.{ReadAnswer}
+use Rattle.grid_promises.specs.declared.WriteAnswer.{WriteAnswer}
+use Rattle.grid_promises.proofs.RefusalLaws.{in-range, read-sized, write-sized}
+use Rattle.grid_promises.proofs.Demands.{read-demands, write-demands}
 
 -- ---- numbers and lengths
 

@@ -17,14 +17,14 @@ use Rattle.rdis.specs.Cells.{flips, holds, stored}
 use Rattle.rdis.specs.Packing.{width, inOrder, packed}
 use Rattle.rdis.proofs.CounterLaws.{counters-outside}
 use Rattle.rdis.proofs.PackingLaws.{width-holds}
-use Rattle.gridcalls.specs.declared.WriteAnswer.{WriteAnswer}
+use Rattle.grid_promises.specs.declared.WriteAnswer.{WriteAnswer}
 use Rattle.grid.specs.declared.levels.Taken.{Taken}
-use Rattle.gridcalls.specs.Calls.{past, writePast}
-use Rattle.gridcalls.specs.Promises.{Write}
-use Rattle.counters.specs.Promises.{times, packable, Pack}
-use Rattle.counters.proofs.PromiseLaws.{can-pack}
+use Rattle.grid_promises.specs.Calls.{past, writePast}
+use Rattle.grid_promises.specs.Promises.{Write}
+use Rattle.grid_counters.specs.Promises.{times, packable, Pack}
+use Rattle.grid_counters.proofs.PromiseLaws.{can-pack}
 use Rattle.grid.specs.Steps.{blockOf, WriteSized, crossings, Counts, Follows, heldBy}
-use Rattle.gridcalls.proofs.RefusalLaws.{in-range, within}
+use Rattle.grid_promises.proofs.RefusalLaws.{in-range, within}
 use Rattle.grid.proofs.Returns.{accepted-write}
 
 -- ---- how the levels ended

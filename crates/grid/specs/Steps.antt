@@ -9,8 +9,8 @@ use Rattle.bits.specs.Bits.{num, sum, has}
 use Rattle.rdis.specs.Block.{Block, bit}
 use Rattle.rdis.specs.Levels.{Subgrid, Outcome, masked, unmaskable, levels}
 use Rattle.rdis.specs.Packing.{width, bytesFor}
-use Rattle.counters.specs.Promises.{times}
-use Rattle.gridcalls.specs.Calls.{block, inRange}
+use Rattle.grid_counters.specs.Promises.{times}
+use Rattle.grid_promises.specs.Calls.{block, inRange}
 use Rattle.grid.specs.declared.levels.Sub.{Sub}
 use Rattle.grid.specs.declared.levels.Taken.{Taken}
 

@@ -1,4 +1,5 @@
 // The levels of a write, over sets of rows and columns held as bits of words.
+use grid_counters::LEVELS;
 ghost use mathlib.Core.Path.{_≡_};
 ghost use mathlib.Core.Bool.{true, not, xor, cond, _&&_};
 ghost use Prim.Native.Nat.{ℕ, _^_, _<_, _≤_};
@@ -18,8 +19,8 @@ pub struct Sub {
 pub struct Taken {
     pub ended: bool,
     pub used: usize,
-    pub rows: [u64; 8],
-    pub columns: [u64; 8],
+    pub rows: [u64; LEVELS],
+    pub columns: [u64; LEVELS],
 }
 
 // The stuck cells of a row that are wrong for the data, or the right ones.
@@ -69,8 +70,8 @@ fn descend(data: &[u64], mask: &[u64], values: &[u64], s: Sub, wrong: bool, allo
         return Taken {
             ended: t.rows == 0,
             used: 0,
-            rows: [0u64; 8],
-            columns: [0u64; 8],
+            rows: [0u64; LEVELS],
+            columns: [0u64; LEVELS],
         };
     }
     let mut r = descend(data, mask, values, t, !wrong, allowed - 1);
@@ -87,8 +88,8 @@ pub fn plan(columns: usize, k: usize, data: &[u64], mask: &[u64], values: &[u64]
     ensures { λ r. ⌜ (r .used ≤ k) × Follows r (planOf (blockOf columns (now («data» .entry)) (now (mask .entry)) (now (values .entry))) k) ⌝ }
 {
     let s = Sub {
-        rows: gridjudge::lowest(data.len()),
-        columns: gridjudge::lowest(columns),
+        rows: words::low_bits(data.len()),
+        columns: words::low_bits(columns),
     };
     descend(data, mask, values, s, true, k)
 }

@@ -3,12 +3,15 @@ mod levels;
 mod pattern;
 mod sets;
 
-use gridcalls::ReadAnswer;
-use gridcalls::WriteAnswer;
+use grid_promises::ReadAnswer;
+use grid_promises::WriteAnswer;
+use refusals::ACCEPTED;
+use refusals::BIT_PAST_END;
+use refusals::UNMASKABLE;
 ghost use mathlib.Core.Path.{_≡_};
 ghost use lib.ListN.{length};
-ghost use Rattle.gridcalls.specs.Promises.{Read, Write};
-ghost use Rattle.gridcalls.specs.Calls.{block};
+ghost use Rattle.grid_promises.specs.Promises.{Read, Write};
+ghost use Rattle.grid_promises.specs.Calls.{block};
 ghost use Rattle.grid.specs.Steps.{ReadSized, WriteSized};
 
 // Reads a block into `out` by its counters, whoever made them.
@@ -22,8 +25,8 @@ pub fn read(
 ) -> ReadAnswer
     ensures { λ r. ⌜ Read rows columns k (now (cells .entry)) (now (counters .entry)) (now (out .entry)) r (now (out .exit)) ⌝ }
 {
-    let number = gridjudge::read_number(rows, columns, k, cells.len(), counters.len(), out.len());
-    if number != 0 {
+    let number = grid_checks::read_number(rows, columns, k, cells.len(), counters.len(), out.len());
+    if number != ACCEPTED {
         return ReadAnswer { number };
     }
     ReadAnswer {
@@ -36,12 +39,12 @@ fn read_sized(columns: usize, k: usize, cells: &[u64], counters: &[u8], out: &mu
     requires { ⌜ ReadSized columns k (now cells) (now counters) (now out) ⌝ }
     ensures { λ r. ⌜ Read (length (now (cells .entry))) columns k (now (cells .entry)) (now (counters .entry)) (now (out .entry)) (record { number = r }) (now (out .exit)) ⌝ }
 {
-    if !gridjudge::within(cells, columns) {
-        return 3;
+    if !grid_checks::within(cells, columns) {
+        return BIT_PAST_END;
     }
-    let c = counters::unpack(k, cells.len() + columns, counters);
+    let c = grid_counters::unpack(k, cells.len() + columns, counters);
     let held = c.held; // an array in a field is lent by a variable
-    if c.number == 0 {
+    if c.number == ACCEPTED {
         gridshow::show(columns, cells, &held, out);
     }
     c.number
@@ -70,7 +73,7 @@ pub fn write(
 ) -> WriteAnswer
     ensures { λ r. ⌜ Write (block rows columns (now («data» .entry)) (now (mask .entry)) (now (values .entry))) k (now (cells .entry)) (now (counters .entry)) r (now (cells .exit)) (now (counters .exit)) ⌝ }
 {
-    let number = gridjudge::write_number(
+    let number = grid_checks::write_number(
         rows,
         columns,
         k,
@@ -80,7 +83,7 @@ pub fn write(
         cells.len(),
         counters.len(),
     );
-    if number != 0 {
+    if number != ACCEPTED {
         return refused(number);
     }
     write_sized(columns, k, data, mask, values, cells, counters)
@@ -99,18 +102,18 @@ fn write_sized(
     requires { ⌜ WriteSized columns k (now «data») (now mask) (now values) (now cells) (now counters) ⌝ }
     ensures { λ r. ⌜ Write (block (length (now («data» .entry))) columns (now («data» .entry)) (now (mask .entry)) (now (values .entry))) k (now (cells .entry)) (now (counters .entry)) r (now (cells .exit)) (now (counters .exit)) ⌝ }
 {
-    if !gridjudge::all_within(data, mask, values, columns) {
-        return refused(3);
+    if !grid_checks::all_within(data, mask, values, columns) {
+        return refused(BIT_PAST_END);
     }
     let t = levels::plan(columns, k, data, mask, values);
     if !t.ended {
-        return refused(7);
+        return refused(UNMASKABLE);
     }
     // An array in a field is passed by a variable.
     let taken_rows = t.rows;
     let taken_columns = t.columns;
     pattern::store(data, mask, values, taken_rows, taken_columns, t.used, cells);
-    counters::pack(
+    grid_counters::pack(
         k,
         data.len(),
         columns,
@@ -120,7 +123,7 @@ fn write_sized(
         counters,
     );
     WriteAnswer {
-        number: 0,
+        number: ACCEPTED,
         levels: t.used,
         faults: levels::stuck_cells(mask),
     }

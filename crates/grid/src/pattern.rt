@@ -1,4 +1,5 @@
 // Which cells are held the other way round, and what is stored by that.
+use grid_counters::LEVELS;
 ghost use mathlib.Core.Path.{_≡_};
 ghost use mathlib.Core.Bool.{xor, cond};
 ghost use Prim.Native.Nat.{_+_, _%_, _^_, _<_, _≤_};
@@ -8,7 +9,7 @@ ghost use Rattle.bits.specs.Bits.{has, word, words};
 ghost use Rattle.grid.specs.Steps.{Rows, crossings, heldBy};
 
 // The cells of row `i` that an odd number of the first `used` pairs of sets have.
-fn pattern(rows: &[u64; 8], columns: &[u64; 8], used: usize, i: usize) -> u64
+fn pattern(rows: &[u64; LEVELS], columns: &[u64; LEVELS], used: usize, i: usize) -> u64
     requires { ⌜ (used ≤ 8) × (i < 64) ⌝ }
     ensures { λ w. ⌜ w ≡ word 64 (λ j. eqb (crossings (now (rows .entry)) (now (columns .entry)) used i j % 2) 1) ⌝ }
 {
@@ -34,8 +35,8 @@ pub fn store(
     data: &[u64],
     mask: &[u64],
     values: &[u64],
-    rows: [u64; 8],
-    columns: [u64; 8],
+    rows: [u64; LEVELS],
+    columns: [u64; LEVELS],
     used: usize,
     cells: &mut [u64],
 )

@@ -7,6 +7,11 @@ ghost use lib.Dec.{eqb};
 ghost use Rattle.bits.specs.Bits.{has, word};
 ghost use Rattle.gridshow.specs.Promises.{shownBy, Show};
 
+// A block has at most so many rows, and so many columns.
+const LINES: usize = 64;
+// And a counter for each.
+const COUNTERS: usize = 128;
+
 // The smaller of two counters is odd.
 fn flips(r: u8, c: u8) -> bool
     ensures { λ t. ⌜ t ≡ eqb (min r c % 2) 1 ⌝ }
@@ -23,7 +28,7 @@ fn shown(word: u64, j: usize, r: u8, c: u8) -> bool
 }
 
 // What a row of cells shows, each cell by itself.
-fn shown_row(w: u64, columns: usize, r: u8, counters: &[u8; 128], rows: usize) -> u64
+fn shown_row(w: u64, columns: usize, r: u8, counters: &[u8; COUNTERS], rows: usize) -> u64
     requires { ⌜ (columns ≤ 64) × (rows ≤ 64) ⌝ }
     ensures { λ v. ⌜ v ≡ word columns (λ j. xor (eqb (min r (getD (now (counters .entry)) (rows + j) 0) % 2) 1) (has w j)) ⌝ }
 {
@@ -39,7 +44,7 @@ fn shown_row(w: u64, columns: usize, r: u8, counters: &[u8; 128], rows: usize) -
 }
 
 // Fills `out` with what the cells show, a row a word.
-fn fill(columns: usize, cells: &[u64], counters: &[u8; 128], out: &mut [u64])
+fn fill(columns: usize, cells: &[u64], counters: &[u8; COUNTERS], out: &mut [u64])
     requires { ⌜ (columns ≤ 64) × (length (now cells) ≤ 64) × (length (now out) ≡ length (now cells)) ⌝ }
     ensures { λ _. ⌜ now (out .exit) ≡ shownBy columns (now (counters .entry)) (now (cells .entry)) ⌝ }
 {
@@ -51,10 +56,10 @@ fn fill(columns: usize, cells: &[u64], counters: &[u8; 128], out: &mut [u64])
 }
 
 // Fills `out` with what cells of so many columns show, where the sizes are those of a block and there is a word of output for each row.
-pub fn show(columns: usize, cells: &[u64], counters: &[u8; 128], out: &mut [u64])
+pub fn show(columns: usize, cells: &[u64], counters: &[u8; COUNTERS], out: &mut [u64])
     ensures { λ _. ⌜ Show columns (now (cells .entry)) (now (counters .entry)) (now (out .entry)) (now (out .exit)) ⌝ }
 {
-    if (columns <= 64) & ((cells.len() <= 64) & (out.len() == cells.len())) {
+    if (columns <= LINES) & ((cells.len() <= LINES) & (out.len() == cells.len())) {
         fill(columns, cells, counters, out);
     }
 }

@@ -11,8 +11,8 @@ use Rattle.bits.specs.Bits.{has, at, bytes, list, Below}
 use Rattle.bits.proofs.BoundLaws.{list-getD, list-done}
 use Rattle.bits.proofs.BitLaws.{is-word}
 use Rattle.bits.proofs.ByteLaws.{below-set, at-byte, is-bytes, bytes-more}
-use Rattle.pointercalls.specs.Pointer.{pointer, replacement, entry, shown, stored}
-use Rattle.pointercalls.proofs.EntryLaws.{shown-snoc}
+use Rattle.pointer_promises.specs.Pointer.{pointer, replacement, entry, shown, stored}
+use Rattle.pointer_promises.proofs.EntryLaws.{shown-snoc}
 use Rattle.pointer.proofs.OctetLaws.{bit-chosen, at-changed, one-more}
 
 pub copy-done : (j : ℕ) (cells out : List ℕ) → length cells ≡ 64 → length out ≡ 64 → j ≡ 64 → take j out ≡ list j (λ i. getD cells i 0) → out ≡ cells

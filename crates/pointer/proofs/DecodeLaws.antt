@@ -17,12 +17,12 @@ use Rattle.bits.proofs.BoundLaws.{some-in, some-none, sum-ext}
 use Rattle.bits.proofs.BitLaws.{has-low, has-ext, one-shl, ones-bits}
 use Rattle.bits.proofs.ByteLaws.{getD-zeros, at-zeros, below-set}
 use Rattle.bits.proofs.DigitLaws.{window-bit}
-use Rattle.pointercalls.specs.Pointer.{size, pointer, replacement, entry, spare, active, unary, idle, formed, held, names, repeats, verdict}
+use Rattle.pointer_promises.specs.Pointer.{size, pointer, replacement, entry, spare, active, unary, idle, formed, held, names, repeats, verdict}
 use Rattle.pointer.specs.Steps.{Marked, Counted}
-use Rattle.pointercalls.proofs.EntryLaws.{names-snoc, repeats-snoc}
-use Rattle.pointercalls.proofs.MetadataLaws.{has-entry, entry-lt, unary-ones, active-full, active-unary}
-use Rattle.pointercalls.proofs.CodecLaws.{spare-entry}
-use Rattle.pointercalls.proofs.NumberLaws.{verdict-tests}
+use Rattle.pointer_promises.proofs.EntryLaws.{names-snoc, repeats-snoc}
+use Rattle.pointer_promises.proofs.MetadataLaws.{has-entry, entry-lt, unary-ones, active-full, active-unary}
+use Rattle.pointer_promises.proofs.CodecLaws.{spare-entry}
+use Rattle.pointer_promises.proofs.NumberLaws.{verdict-tests}
 use Rattle.pointer.proofs.OctetLaws.{tenth, set-before, at-changed, one-more}
 
 -- ---- an entry

@@ -15,7 +15,7 @@ use lib.Seq.{getD-set-same, getD-set-other}
 use Rattle.bits.specs.Bits.{list, has, at}
 use Rattle.bits.proofs.TestLaws.{same-test, eqb-same, xor-true, xor-false, xor-twice}
 use Rattle.bits.proofs.BitLaws.{has-and, has-or, has-xor, has-one, has-ext, one-shl-in}
-use Rattle.pointercalls.specs.Pointer.{pointer, replacement, entry}
+use Rattle.pointer_promises.specs.Pointer.{pointer, replacement, entry}
 
 -- what is taken away bit by bit
 without : (a b : Bool) → xor a (a && b) ≡ a && not b

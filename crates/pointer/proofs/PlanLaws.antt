@@ -14,11 +14,11 @@ use lib.ListN.{length, getD, set, length-append}
 use Rattle.bits.specs.Bits.{has, at, Below}
 use Rattle.bits.proofs.TestLaws.{clash, and-in, and-left, lt-or-le}
 use Rattle.bits.proofs.BitLaws.{has-zero, has-high, has-shr, lowest-set, below-lowest}
-use Rattle.pointercalls.specs.Pointer.{positions, renewed}
+use Rattle.pointer_promises.specs.Pointer.{positions, renewed}
 use Rattle.pointer.specs.Steps.{unservedAt, unservedFrom, Noted, Planned}
 use Rattle.pointer.proofs.OctetLaws.{bit-unserved}
 use Rattle.pointer.proofs.EncodeLaws.{noted-more}
-use Rattle.pointercalls.proofs.PositionLaws.{positions-take, positions-none, positions-grow}
+use Rattle.pointer_promises.proofs.PositionLaws.{positions-take, positions-none, positions-grow}
 
 -- ---- what is found in a byte
 

@@ -10,14 +10,14 @@ use lib.Dec.{eqb, ltb}
 use lib.ListN.{length, length-append, length-map}
 use Rattle.bits.specs.Bits.{list, at, bytes, Below}
 use Rattle.bits.proofs.TestLaws.{and-left, and-right, or-out, or-neither}
-use Rattle.pointercalls.specs.Pointer.{size, entry, active, held, shown, unserved, positions, renewed, after, activeAfter, stored, orElse, measured, verdict, readNumber, needed, writeJudged, writeNumber}
-use Rattle.pointercalls.specs.Promises.{Read, Write}
+use Rattle.pointer_promises.specs.Pointer.{size, entry, active, held, shown, unserved, positions, renewed, after, activeAfter, stored, orElse, measured, verdict, readNumber, needed, writeJudged, writeNumber}
+use Rattle.pointer_promises.specs.Promises.{Read, Write}
 use Rattle.pointer.specs.Steps.{digit, digitBit, Digits, Sized, Marked, Judged, unservedAt, Planned, Made}
-use Rattle.pointercalls.proofs.PositionLaws.{length-positions, positions-ext}
-use Rattle.pointercalls.proofs.MetadataLaws.{length-held}
-use Rattle.pointercalls.proofs.NumberLaws.{measured-low, measured-high, measured-in, measured-zero}
-use Rattle.pointercalls.proofs.AfterLaws.{after-below}
-use Rattle.pointercalls.proofs.Demands.{read-refused, read-accepted, write-refused, write-accepted}
+use Rattle.pointer_promises.proofs.PositionLaws.{length-positions, positions-ext}
+use Rattle.pointer_promises.proofs.MetadataLaws.{length-held}
+use Rattle.pointer_promises.proofs.NumberLaws.{measured-low, measured-high, measured-in, measured-zero}
+use Rattle.pointer_promises.proofs.AfterLaws.{after-below}
+use Rattle.pointer_promises.proofs.Demands.{read-refused, read-accepted, write-refused, write-accepted}
 use Rattle.pointer.proofs.DecodeLaws.{named}
 use Rattle.pointer.proofs.EncodeLaws.{digits-below, encoded}
 

@@ -6,7 +6,7 @@ use mathlib.Core.List.{List, _++_, map}
 use lib.ListN.{length, getD}
 use lib.Dec.{eqb, ltb}
 use Rattle.bits.specs.Bits.{has, at}
-use Rattle.pointercalls.specs.Pointer.{size, active, held, names, repeats, positions, renewed, after, activeAfter, slot, orElse, measured, verdict, needed, writeNumber}
+use Rattle.pointer_promises.specs.Pointer.{size, active, held, names, repeats, positions, renewed, after, activeAfter, slot, orElse, measured, verdict, needed, writeNumber}
 
 -- the metadata's bits after nine others, as digits of ten bits: the full bit is the highest of the first, and each entry is one of the others
 unfoldable pub digit : ℕ → List ℕ → ℕ → ℕ

@@ -1,17 +1,26 @@
 // From metadata to entries: what the entries hold, which are active, and what is wrong with them.
 use super::octets::byte;
 use super::octets::shown;
+use crate::ENTRIES;
+use crate::ROW_BYTES;
+use crate::ROW_CELLS;
+use refusals::ACCEPTED;
+use refusals::BIT_PAST_END;
+use refusals::MALFORMED;
+use refusals::OUT_OF_RANGE;
+use refusals::SAME_POINTER;
+use refusals::WRONG_LENGTH;
 ghost use mathlib.Core.Path.{_≡_};
 ghost use Prim.Native.Nat.{_≤_};
 ghost use Rattle.bits.specs.Bits.{list};
-ghost use Rattle.pointercalls.specs.Pointer.{entry, active, measured, verdict};
+ghost use Rattle.pointer_promises.specs.Pointer.{entry, active, measured, verdict};
 ghost use Rattle.pointer.specs.Steps.{Marked, Counted, Judged};
 
 // Which entries are active, and the positions that these name.
 pub struct Row {
     pub number: usize,
     pub active: usize,
-    pub served: [u8; 64],
+    pub served: [u8; ROW_BYTES],
 }
 
 // What a call finds in its metadata, where `fixed` says that its other buffers have their lengths.
@@ -19,8 +28,8 @@ pub fn found(n: usize, fixed: bool, m: &[u8]) -> Row
     ensures { λ r. ⌜ Judged n fixed (now (m .entry)) (r .number) (r .active) (r .served) ⌝ }
 {
     let k = measured(n, fixed, m.len());
-    if 0 < k {
-        let served = [0u8; 64];
+    if ACCEPTED < k {
+        let served = [0u8; ROW_BYTES];
         return Row {
             number: k,
             active: 0,
@@ -41,13 +50,13 @@ pub fn found(n: usize, fixed: bool, m: &[u8]) -> Row
 fn measured(n: usize, fixed: bool, metadata: usize) -> usize
     ensures { λ r. ⌜ r ≡ measured n fixed metadata ⌝ }
 {
-    if (n < 1) | (10 < n) {
-        return 1;
+    if (n < 1) | (ENTRIES < n) {
+        return OUT_OF_RANGE;
     }
     if fixed & (metadata == (1 + 10 * n + 7) / 8) {
-        0
+        ACCEPTED
     } else {
-        2
+        WRONG_LENGTH
     }
 }
 
@@ -80,38 +89,38 @@ fn judged(n: usize, m: &[u8], a: usize, repeated: bool) -> usize
     ensures { λ r. ⌜ r ≡ verdict n (now (m .entry)) ⌝ }
 {
     if entry_at(m, n) != 0 {
-        return 3;
+        return BIT_PAST_END;
     }
     let mut idle = (1 << a) - 1;
     let mut e = n;
     while a < e {
         e -= 1;
         if entry_at(m, e) != idle {
-            return 4;
+            return MALFORMED;
         }
         idle = 0;
     }
-    if repeated { 5 } else { 0 }
+    if repeated { SAME_POINTER } else { ACCEPTED }
 }
 
 // The positions that the first a entries name, and whether one is named twice.
 struct Marks {
     repeated: bool,
-    served: [u8; 64],
+    served: [u8; ROW_BYTES],
 }
 
 fn marked(m: &[u8], a: usize) -> Marks
     requires { ⌜ a ≤ 10 ⌝ }
     ensures { λ r. ⌜ Marked (list a (entry (now (m .entry)))) (r .repeated) (r .served) ⌝ }
 {
-    let mut served = [0u8; 64];
+    let mut served = [0u8; ROW_BYTES];
     let mut repeated = false;
     let mut i = 0;
     while i < a {
-        let p = entry_at(m, i) % 512;
+        let p = entry_at(m, i) % ROW_CELLS;
         let q = p / 8;
         let b = served[q];
-        let c = shown(b, p + 512); // as by an entry that shows a 1 there
+        let c = shown(b, p + ROW_CELLS); // as by an entry that shows a 1 there
         repeated = repeated | (b == c);
         served[q] = c;
         i += 1;

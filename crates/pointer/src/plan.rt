@@ -3,11 +3,16 @@ use super::decode::found;
 use super::encode::counted;
 use super::encode::kept;
 use super::encode::renewed;
+use crate::DIGITS;
+use crate::ROW_BYTES;
+use crate::ROW_CELLS;
+use refusals::ACCEPTED;
+use refusals::NO_ENTRY_LEFT;
 ghost use mathlib.Core.Path.{_≡_};
 ghost use Prim.Native.Nat.{ℕ, _≤_, _<_};
 ghost use lib.ListN.{length};
 ghost use Rattle.bits.specs.Bits.{list, has};
-ghost use Rattle.pointercalls.specs.Pointer.{entry};
+ghost use Rattle.pointer_promises.specs.Pointer.{entry};
 ghost use Rattle.pointer.specs.Steps.{unservedAt, unservedFrom, Planned, Made};
 
 // The answer, and the metadata's digits where its number is 0.
@@ -15,16 +20,20 @@ pub struct Plan {
     pub number: usize,
     pub active: usize,
     pub new: usize,
-    pub digits: [usize; 12],
+    pub digits: [usize; DIGITS],
 }
 
 pub fn made(n: usize, data: &[u8], mask: &[u8], values: &[u8], cells: usize, m: &[u8]) -> Plan
     ensures { λ r. ⌜ Made n (now («data» .entry)) (now (mask .entry)) (now (values .entry)) cells (now (m .entry)) (r .number) (r .active) (r .new) (r .digits) ⌝ }
 {
-    let fixed = (data.len() == 64) & (mask.len() == 64);
-    let row = found(n, fixed & (values.len() == 64) & (cells == 64), m);
-    if 0 < row.number {
-        let none = [0usize; 12];
+    let fixed = (data.len() == ROW_BYTES) & (mask.len() == ROW_BYTES);
+    let row = found(
+        n,
+        fixed & (values.len() == ROW_BYTES) & (cells == ROW_BYTES),
+        m,
+    );
+    if ACCEPTED < row.number {
+        let none = [0usize; DIGITS];
         return Plan {
             number: row.number,
             active: 0,
@@ -38,14 +47,14 @@ pub fn made(n: usize, data: &[u8], mask: &[u8], values: &[u8], cells: usize, m: 
     let digits = all.digits;
     if n < a {
         return Plan {
-            number: 6,
+            number: NO_ENTRY_LEFT,
             active: 0,
             new: 0,
             digits,
         };
     }
     Plan {
-        number: 0,
+        number: ACCEPTED,
         active: a,
         new: a - row.active,
         digits: counted(n, digits, a),
@@ -55,7 +64,7 @@ pub fn made(n: usize, data: &[u8], mask: &[u8], values: &[u8], cells: usize, m: 
 // How many entries are needed, n + 1 where they are more than n, and their digits.
 struct Entries {
     active: usize,
-    digits: [usize; 12],
+    digits: [usize; DIGITS],
 }
 
 // Byte by byte, and one turn more for each position found; it ends as soon as there is no entry left.
@@ -64,7 +73,7 @@ fn planned(
     data: &[u8],
     mask: &[u8],
     values: &[u8],
-    served: [u8; 64],
+    served: [u8; ROW_BYTES],
     m: &[u8],
     held: usize,
 ) -> Entries
@@ -74,7 +83,7 @@ fn planned(
     let mut digits = kept(data, m, held);
     let mut a = held;
     let mut q = 0;
-    while (q < 512) & (a <= n) {
+    while (q < ROW_CELLS) & (a <= n) {
         let rest = left(data, mask, values, served[q / 8], q);
         if rest == 0 {
             q = 8 * (q / 8) + 8;

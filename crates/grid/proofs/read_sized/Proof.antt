@@ -4,9 +4,9 @@ use mathlib.Core.Path.{_≡_, sym, _∙_}
 use mathlib.Core.Bool.{false}
 use native.Mathlib.Omega.{arith}
 use lib.ListN.{length}
-use Rattle.gridcalls.specs.Calls.{past}
-use Rattle.gridcalls.specs.Refusals.{InRange}
-use Rattle.gridcalls.proofs.RefusalLaws.{in-range}
+use Rattle.grid_promises.specs.Calls.{past}
+use Rattle.grid_promises.specs.Refusals.{InRange}
+use Rattle.grid_promises.proofs.RefusalLaws.{in-range}
 use Rattle.grid.proofs.Returns.{read-past, read-refused, accepted-read}
 use Rattle.grid.proofs.read_sized.Statement.{statement}
 use Rattle.grid.proofs.read_sized.Tie as tie

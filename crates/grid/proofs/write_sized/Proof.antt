@@ -5,9 +5,9 @@ use borrow.Author.Needs.{needs}
 use borrow.Author.Tests.{not-true, not-false}
 use lib.ListN.{length}
 use Rattle.rdis.specs.Levels.{plan}
-use Rattle.gridcalls.specs.Calls.{writePast}
-use Rattle.gridcalls.specs.Refusals.{InRange}
-use Rattle.gridcalls.proofs.RefusalLaws.{in-range}
+use Rattle.grid_promises.specs.Calls.{writePast}
+use Rattle.grid_promises.specs.Refusals.{InRange}
+use Rattle.grid_promises.proofs.RefusalLaws.{in-range}
 use Rattle.grid.specs.Steps.{blockOf, Rows}
 use Rattle.grid.proofs.Returns.{write-past, write-unmaskable}
 use Rattle.grid.proofs.WriteLaws.{lost, wrote}

@@ -5,7 +5,7 @@ use lib.ListN.{length, take, length-set}
 use native.Mathlib.Omega.{arith}
 use Rattle.bits.specs.Bits.{list, words, bytes}
 use Rattle.bits.proofs.ByteLaws.{bytes-done}
-use Rattle.pointercalls.specs.Pointer.{stored}
+use Rattle.pointer_promises.specs.Pointer.{stored}
 use Rattle.pointer.proofs.CellLaws.{store-more}
 use Rattle.pointer.proofs.cells.store.Statement.{statement}
 use Rattle.pointer.proofs.cells.store.Tie as tie

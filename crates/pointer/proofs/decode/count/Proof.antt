@@ -4,7 +4,7 @@ use borrow.Author.Needs.{needs}
 use native.Mathlib.Omega.{arith}
 use lib.Pow.{pow-pos}
 use Rattle.bits.proofs.BitLaws.{one-shl}
-use Rattle.pointercalls.proofs.MetadataLaws.{active-le}
+use Rattle.pointer_promises.proofs.MetadataLaws.{active-le}
 use Rattle.pointer.proofs.DecodeLaws.{count-full, count-part}
 use Rattle.pointer.proofs.decode.count.Statement.{statement}
 use Rattle.pointer.proofs.decode.count.Tie as tie

@@ -5,7 +5,7 @@ use mathlib.Core.Path.{_≡_, sym, _∙_}
 use native.Mathlib.Omega.{arith}
 use lib.Pow.{pow-pos}
 use Rattle.bits.proofs.BitLaws.{one-shl}
-use Rattle.pointercalls.specs.Pointer.{entry, idle}
+use Rattle.pointer_promises.specs.Pointer.{entry, idle}
 use Rattle.pointer.proofs.DecodeLaws.{idle-yes, idle-no, above-more, judged-spare, judged-stray, judged-formed}
 use Rattle.pointer.proofs.decode.judged.Statement.{statement}
 use Rattle.pointer.proofs.decode.judged.Tie as tie

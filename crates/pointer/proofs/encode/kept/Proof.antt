@@ -4,7 +4,7 @@ use mathlib.Core.Path.{_≡_, sym, subst}
 use native.Mathlib.Omega.{arith}
 use Rattle.bits.specs.Bits.{list}
 use Rattle.bits.proofs.BoundLaws.{length-list}
-use Rattle.pointercalls.specs.Pointer.{entry}
+use Rattle.pointer_promises.specs.Pointer.{entry}
 use Rattle.pointer.specs.Steps.{Noted}
 use Rattle.pointer.proofs.OctetLaws.{one-more}
 use Rattle.pointer.proofs.EncodeLaws.{noted-start, noted-more}

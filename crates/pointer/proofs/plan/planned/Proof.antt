@@ -7,7 +7,7 @@ use native.Mathlib.Omega.{arith}
 use Rattle.bits.specs.Bits.{list}
 use Rattle.bits.proofs.TestLaws.{and-left, and-right}
 use Rattle.bits.proofs.BoundLaws.{length-list}
-use Rattle.pointercalls.specs.Pointer.{entry}
+use Rattle.pointer_promises.specs.Pointer.{entry}
 use Rattle.pointer.specs.Steps.{unservedAt}
 use Rattle.pointer.proofs.PlanLaws.{Planning, Next, none-left, next-is, plan-start, plan-skip, plan-more, plan-done}
 use Rattle.pointer.proofs.plan.planned.Statement.{statement}

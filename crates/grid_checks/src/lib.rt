@@ -1,0 +1,101 @@
+// What is judged before a block is worked on: numbers, lengths, and bits past the last column. Each function answers for every argument.
+use grid_counters::LINES;
+use refusals::ACCEPTED;
+use refusals::OUT_OF_RANGE;
+use refusals::WRONG_LENGTH;
+ghost use mathlib.Core.Path.{_≡_};
+ghost use mathlib.Core.Bool.{true, not, _&&_, _||_};
+ghost use Prim.Native.Nat.{min};
+ghost use Rattle.bits.specs.Bits.{word};
+ghost use Rattle.grid_promises.specs.Calls.{between, inRange, past};
+ghost use Rattle.grid_checks.specs.Numbers.{judged, readJudged, writeJudged};
+
+// The largest K.
+const MOST_LEVELS: usize = 3;
+
+fn is_between(first: usize, last: usize, x: usize) -> bool
+    ensures { λ r. ⌜ r ≡ between first last x ⌝ }
+{
+    first <= x && x <= last
+}
+
+// The rows, the columns and K lie in their ranges.
+fn in_range(rows: usize, columns: usize, k: usize) -> bool
+    ensures { λ r. ⌜ r ≡ inRange rows columns k ⌝ }
+{
+    is_between(1, LINES, rows) & (is_between(1, LINES, columns) & is_between(1, MOST_LEVELS, k))
+}
+
+// The refusal of numbers and lengths, 1 or 2, or else 0. `others` says whether the buffers beside the cells and the counters have as many words as there are rows.
+fn number(
+    rows: usize,
+    columns: usize,
+    k: usize,
+    cells: usize,
+    counters: usize,
+    others: bool,
+) -> usize
+    ensures { λ r. ⌜ r ≡ judged rows columns k cells counters others ⌝ }
+{
+    if !in_range(rows, columns, k) {
+        return OUT_OF_RANGE;
+    }
+    if others & ((cells == rows) & grid_counters::fits(k, rows + columns, counters)) {
+        ACCEPTED
+    } else {
+        WRONG_LENGTH
+    }
+}
+
+// The refusal of a read's numbers and lengths, 1 or 2, or else 0.
+pub fn read_number(
+    rows: usize,
+    columns: usize,
+    k: usize,
+    cells: usize,
+    counters: usize,
+    out: usize,
+) -> usize
+    ensures { λ r. ⌜ r ≡ readJudged rows columns k cells counters out ⌝ }
+{
+    number(rows, columns, k, cells, counters, out == rows)
+}
+
+// The same for a write.
+pub fn write_number(
+    rows: usize,
+    columns: usize,
+    k: usize,
+    data: usize,
+    mask: usize,
+    values: usize,
+    cells: usize,
+    counters: usize,
+) -> usize
+    ensures { λ r. ⌜ r ≡ writeJudged rows columns k «data» mask values cells counters ⌝ }
+{
+    let others = (data == rows) & ((mask == rows) & (values == rows));
+    number(rows, columns, k, cells, counters, others)
+}
+
+// No word has a bit past the last column.
+pub fn within(words: &[u64], columns: usize) -> bool
+    ensures { λ r. ⌜ r ≡ not (past columns (now (words .entry))) ⌝ }
+{
+    let most = words::low_bits(columns);
+    let mut i = 0;
+    while i < words.len() {
+        if words[i] > most {
+            return false;
+        }
+        i += 1;
+    }
+    true
+}
+
+// None of the three has such a word.
+pub fn all_within(data: &[u64], mask: &[u64], values: &[u64], columns: usize) -> bool
+    ensures { λ r. ⌜ r ≡ not (past columns (now («data» .entry)) || (past columns (now (mask .entry)) || past columns (now (values .entry)))) ⌝ }
+{
+    within(data, columns) & (within(mask, columns) & within(values, columns))
+}

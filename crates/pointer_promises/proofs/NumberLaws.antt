@@ -1,0 +1,136 @@
+-- Laws of the numbers that are answered: what a 0 tells. Assumes nothing.
+use mathlib.Core.Path.{subst, _≡_, refl, sym}
+use mathlib.Core.Bool.{Bool, true, false, cond, _&&_}
+use mathlib.Core.List.{List}
+use mathlib.Core.Logic.{_↔_, ⊎-elim}
+use Prim.Native.Nat.{ℕ, _+_, _≤_, _<_}
+use native.Mathlib.Omega.{arith}
+use borrow.Author.Tests.{leb-true, le-leb, lt-leb, eqb-true, eq-eqb}
+use lib.Dec.{eqb, leb}
+use lib.ListN.{length}
+use Rattle.bits.specs.Lowest.{Lowest}
+use Rattle.bits.proofs.TestLaws.{lt-or-le, and-in, and-left, and-right, eqb-iff, false-iff, iff-stable}
+use Rattle.bits.proofs.LowestLaws.{lowest-is}
+use Rattle.pointer_promises.specs.Pointer.{size, spare, active, formed, held, repeats, measured, verdict, readNumber, needed, writeJudged, writeNumber}
+use Rattle.pointer_promises.specs.Refusals.{InRange, WellFormed, outOfRange, wrongLength, notFormed, samePointer, noEntry, Refused, WriteRefused}
+use Rattle.pointer_promises.proofs.FormedLaws.{formed-iff}
+use Rattle.pointer_promises.proofs.ServedLaws.{twice-iff, none-left-iff}
+use Rattle.pointer_promises.proofs.RefusalLaws.{range-iff, from-6, read-lowest, write-lowest}
+
+-- ---- n and the lengths
+
+pub record Measured (n : ℕ) (fixed : Bool) (m : ℕ) : Type 0 where
+  pub least : 1 ≤ n
+  pub most : n ≤ 10
+  pub sized : fixed ≡ true
+  pub long : m ≡ size n
+
+pub measured-zero : (n : ℕ) (fixed : Bool) (m : ℕ) → measured n fixed m ≡ 0 → Measured n fixed m
+unfolding measured
+measured-zero n fixed m h = all (go (leb 1 n && leb n 10) (fixed && eqb m (size n)) h)
+  where
+    go : (a b : Bool) → _≡_ {A = ℕ} (cond a (cond b 0 2) 1) 0 → (a ≡ true) × (b ≡ true)
+    go true true h = (refl, refl)
+    go true false h = absurd (omega arith)
+    go false b h = absurd (omega arith)
+
+    all : (leb 1 n && leb n 10 ≡ true) × (fixed && eqb m (size n) ≡ true) → Measured n fixed m
+    all (a, b) = record {
+      least = leb-true 1 n (and-left (leb 1 n) (leb n 10) a);
+      most = leb-true n 10 (and-right (leb 1 n) (leb n 10) a);
+      sized = and-left fixed (eqb m (size n)) b;
+      long = eqb-true m (size n) (and-right fixed (eqb m (size n)) b);
+    }
+
+pub measured-low : (n : ℕ) (fixed : Bool) (m : ℕ) → n < 1 → 1 ≡ measured n fixed m
+unfolding measured
+measured-low n fixed m h = rw (lt-leb 1 n h)
+
+pub measured-high : (n : ℕ) (fixed : Bool) (m : ℕ) → 10 < n → 1 ≡ measured n fixed m
+unfolding measured
+measured-high n fixed m h = rw (le-leb 1 n (omega arith), lt-leb n 10 h)
+
+pub measured-in : (n : ℕ) (fixed : Bool) (m : ℕ) (t : Bool) → 1 ≤ n → n ≤ 10 → t ≡ fixed && eqb m (size n) → cond t 0 2 ≡ measured n fixed m
+unfolding measured
+measured-in n fixed m t l h e = rw (le-leb 1 n l, le-leb n 10 h, e)
+
+measured-ok : (n : ℕ) (fixed : Bool) (m : ℕ) → 1 ≤ n → n ≤ 10 → fixed ≡ true → m ≡ size n → measured n fixed m ≡ 0
+measured-ok n fixed m l h f e = sym (measured-in n fixed m true l h (sym (and-in f (eq-eqb m (size n) e))))
+
+-- where n and the lengths are right, the metadata decides
+pub read-ok : (n cells : ℕ) (m : List ℕ) (out : ℕ) → 1 ≤ n → n ≤ 10 → cells ≡ 64 → length m ≡ size n → out ≡ 64 → readNumber n cells m out ≡ verdict n m
+unfolding readNumber
+read-ok n cells m out l h c e o = rw (c, o, measured-ok n true (length m) l h refl e)
+
+pub write-ok : (n : ℕ) (wanted mask values : List ℕ) (cells : ℕ) (m : List ℕ) → 1 ≤ n → n ≤ 10 → length wanted ≡ 64 → length mask ≡ 64 → length values ≡ 64 → cells ≡ 64
+    → length m ≡ size n → writeJudged n wanted mask values cells m ≡ verdict n m
+unfolding writeJudged
+write-ok n wanted mask values cells m l h w k v c e = rw (w, k, v, c, measured-ok n true (length m) l h refl e)
+
+-- ---- the metadata
+
+pub verdict-tests : (n : ℕ) (m : List ℕ) (a b c : Bool) → a ≡ spare n m → b ≡ formed n m → c ≡ repeats (held n m) → cond a 3 (cond b (cond c 5 0) 4) ≡ verdict n m
+unfolding verdict
+verdict-tests n m a b c p q r = rw (p, q, r)
+
+pub record Clean (n : ℕ) (m : List ℕ) : Type 0 where
+  pub spares : spare n m ≡ false
+  pub forms : formed n m ≡ true
+  pub differs : repeats (held n m) ≡ false
+
+pub verdict-zero : (n : ℕ) (m : List ℕ) → verdict n m ≡ 0 → Clean n m
+unfolding verdict
+verdict-zero n m h = let (a, b, c) = go (spare n m) (formed n m) (repeats (held n m)) h in record { spares = a; forms = b; differs = c }
+  where
+    go : (a b c : Bool) → _≡_ {A = ℕ} (cond a 3 (cond b (cond c 5 0) 4)) 0 → (a ≡ false) × (b ≡ true) × (c ≡ false)
+    go true b c h = absurd (omega arith)
+    go false true true h = absurd (omega arith)
+    go false true false h = (refl, refl, refl)
+    go false false c h = absurd (omega arith)
+
+-- ---- what it tells that a refusal does not apply
+
+pub record Passed (n : ℕ) (m : List ℕ) : Type 0 where
+  pub range : InRange n
+  pub forms : WellFormed n m
+  pub differs : repeats (held n m) ≡ false
+
+pub passed : (Lengths : Type 0) (n : ℕ) (m : List ℕ) (Full : Type 0) → ((x : ℕ) → x < 6 → Refused Lengths n m Full x → ⊥) → Passed n m
+passed Lengths n m Full h =
+    let range : InRange n = iff-stable _ (range-iff n) (λ q. h 1 (omega arith) (outOfRange q)) in
+    let forms : WellFormed n m = iff-stable _ (formed-iff n m range) (λ q. h 4 (omega arith) (notFormed q)) in
+    record { range = range; forms = forms; differs = false-iff _ (twice-iff n m range forms) (λ q. h 5 (omega arith) (samePointer q)) }
+
+pub read-passed : (n cells : ℕ) (m : List ℕ) (out : ℕ) → readNumber n cells m out ≡ 0 → Passed n m
+read-passed n cells m out z = passed _ n m _ (λ x _. read-lowest n cells m out .none z x)
+
+module _ (n : ℕ) (wanted mask values : List ℕ) (cells : ℕ) (m : List ℕ) where
+  abbrev Refuses : ℕ → Type 0
+  Refuses = WriteRefused n wanted mask values cells m
+
+  -- none of 1 to 5 applies: 6 exactly where the active entries and the unserved positions are more than n
+  pub full-exactly : (k : ℕ) → Lowest Refuses k → ((x : ℕ) → x < 6 → Refuses x → ⊥) → (k ≡ 6) ↔ (n < active n m + needed wanted mask values (held n m))
+  full-exactly k r h =
+      let p : Passed n m = passed _ n m _ h in
+      let (to, from) = none-left-iff n m (p .range) (p .forms) wanted mask values in (
+        λ e. from (from-6 _ n m _ (subst Refuses e (r .applies (omega arith)))),
+        λ l. lowest-is Refuses k 6 r (noEntry (to l)) h,
+      )
+
+  -- what an accepted write tells
+  pub record Accepted : Type 0 where
+    pub judged : Passed n m
+    pub long : length wanted ≡ 64
+    pub few : active n m + needed wanted mask values (held n m) ≤ n
+
+  pub write-zero : writeNumber n wanted mask values cells m ≡ 0 → Accepted
+  write-zero z =
+      let none : (x : ℕ) → Refuses x → ⊥ = write-lowest n wanted mask values cells m .none z in
+      let p : Passed n m = passed _ n m _ (λ x _. none x) in
+      let over : n < active n m + needed wanted mask values (held n m) → ⊥ =
+      λ l. none 6 (noEntry (none-left-iff n m (p .range) (p .forms) wanted mask values .0 l)) in
+      record {
+        judged = p;
+        long = iff-stable _ (eqb-iff (length wanted) 64) (λ q. none 2 (wrongLength (λ r. q (r .dataBytes))));
+        few = ⊎-elim (λ l. absurd (over l)) (λ l. l) (lt-or-le n (active n m + needed wanted mask values (held n m)));
+      }

@@ -1,0 +1,16 @@
+// The refusals of document 01, by name. 0 is the number of an accepted call.
+pub const ACCEPTED: usize = 0;
+// n, the rows, the columns or K lie outside their range.
+pub const OUT_OF_RANGE: usize = 1;
+// A lent buffer is not exactly as long as it should be.
+pub const WRONG_LENGTH: usize = 2;
+// A grid word that is read has a bit past the last column, or a spare bit of read metadata is 1.
+pub const BIT_PAST_END: usize = 3;
+// Pointer metadata is not well formed, or a counter read is above K.
+pub const MALFORMED: usize = 4;
+// Two active entries hold the same pointer.
+pub const SAME_POINTER: usize = 5;
+// A pointer row has no entry left.
+pub const NO_ENTRY_LEFT: usize = 6;
+// The faults of a grid cannot be masked for this data.
+pub const UNMASKABLE: usize = 7;
