@@ -2,6 +2,7 @@
 use super::octets::byte;
 use super::octets::shown;
 use crate::ENTRIES;
+use crate::ENTRY_BITS;
 use crate::ROW_BYTES;
 use crate::ROW_CELLS;
 use refusals::ACCEPTED;
@@ -53,7 +54,7 @@ fn measured(n: usize, fixed: bool, metadata: usize) -> usize
     if (n < 1) | (ENTRIES < n) {
         return OUT_OF_RANGE;
     }
-    if fixed & (metadata == (1 + 10 * n + 7) / 8) {
+    if fixed & (metadata == (1 + ENTRY_BITS * n + 7) / 8) {
         ACCEPTED
     } else {
         WRONG_LENGTH
@@ -65,7 +66,7 @@ pub fn entry_at(m: &[u8], e: usize) -> usize
     requires { ⌜ e ≤ 10 ⌝ }
     ensures { λ r. ⌜ r ≡ entry (now (m .entry)) e ⌝ }
 {
-    let p = 1 + 10 * e;
+    let p = 1 + ENTRY_BITS * e;
     let q = p / 8;
     let v = byte(m, q) + 256 * byte(m, q + 1) + 65536 * byte(m, q + 2);
     (v >> (p % 8)) % 1024

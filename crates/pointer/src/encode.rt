@@ -2,6 +2,7 @@
 use super::decode::entry_at;
 use super::octets::byte;
 use crate::DIGITS;
+use crate::ENTRY_BITS;
 use crate::ROW_CELLS;
 ghost use mathlib.Core.Path.{_≡_};
 ghost use Prim.Native.Nat.{_≤_};
@@ -54,9 +55,9 @@ pub fn store(digits: [usize; DIGITS], m: &mut [u8])
     let mut j = 0;
     while j < m.len() {
         let x = 8 * j + 9;
-        let d = x / 10;
+        let d = x / ENTRY_BITS;
         let v = digits[d] + 1024 * digits[d + 1];
-        m[j] = ((v >> (x % 10)) % 256) as u8;
+        m[j] = ((v >> (x % ENTRY_BITS)) % 256) as u8;
         j += 1;
     }
 }

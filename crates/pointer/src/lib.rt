@@ -14,8 +14,10 @@ ghost use Rattle.pointer_promises.specs.Promises.{Read, Write};
 const ROW_CELLS: usize = 512;
 
 const ROW_BYTES: usize = 64;
-// A row has at most so many entries.
+// A row has at most so many entries, and each has nine bits of pointer and its replacement bit.
 const ENTRIES: usize = 10;
+
+const ENTRY_BITS: usize = 10;
 // A digit for the full bit, one for each entry, and one more: a write that finds too many unserved positions notes the first of them before it refuses.
 const DIGITS: usize = 12;
 
