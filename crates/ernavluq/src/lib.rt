@@ -1,0 +1,61 @@
+// The four calls for programs in C and Rust, in the archive libernavluq.a. Each promises what the call behind it does; include/ernavluq.h declares them.
+// Their names have a prefix, because nothing keeps an exported name apart from those of the C library.
+ghost use Rattle.pointer_promises.specs.Promises as Pointer;
+ghost use Rattle.grid_promises.specs.Promises as Grid;
+ghost use Rattle.grid_promises.specs.Calls.{block};
+
+#[no_mangle]
+pub extern "C" fn ernavluq_pointer_read(
+    n: usize,
+    cells: &[u8],
+    metadata: &[u8],
+    out: &mut [u8],
+) -> pointer_promises::ReadAnswer
+    ensures { λ r. ⌜ Pointer.Read n (now (cells .entry)) (now (metadata .entry)) (now (out .entry)) r (now (out .exit)) ⌝ }
+{
+    pointer::read(n, cells, metadata, out)
+}
+
+#[no_mangle]
+pub extern "C" fn ernavluq_pointer_write(
+    n: usize,
+    data: &[u8],
+    mask: &[u8],
+    values: &[u8],
+    cells: &mut [u8],
+    metadata: &mut [u8],
+) -> pointer_promises::WriteAnswer
+    ensures { λ r. ⌜ Pointer.Write n (now («data» .entry)) (now (mask .entry)) (now (values .entry)) (now (cells .entry)) (now (metadata .entry)) r (now (cells .exit)) (now (metadata .exit)) ⌝ }
+{
+    pointer::write(n, data, mask, values, cells, metadata)
+}
+
+#[no_mangle]
+pub extern "C" fn ernavluq_grid_read(
+    rows: usize,
+    columns: usize,
+    k: usize,
+    cells: &[u64],
+    counters: &[u8],
+    out: &mut [u64],
+) -> grid_promises::ReadAnswer
+    ensures { λ r. ⌜ Grid.Read rows columns k (now (cells .entry)) (now (counters .entry)) (now (out .entry)) r (now (out .exit)) ⌝ }
+{
+    grid::read(rows, columns, k, cells, counters, out)
+}
+
+#[no_mangle]
+pub extern "C" fn ernavluq_grid_write(
+    rows: usize,
+    columns: usize,
+    k: usize,
+    data: &[u64],
+    mask: &[u64],
+    values: &[u64],
+    cells: &mut [u64],
+    counters: &mut [u8],
+) -> grid_promises::WriteAnswer
+    ensures { λ r. ⌜ Grid.Write (block rows columns (now («data» .entry)) (now (mask .entry)) (now (values .entry))) k (now (cells .entry)) (now (counters .entry)) r (now (cells .exit)) (now (counters .exit)) ⌝ }
+{
+    grid::write(rows, columns, k, data, mask, values, cells, counters)
+}

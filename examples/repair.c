@@ -1,0 +1,99 @@
+/* Read this first: one row and one block of memory with stuck cells are written and read back, and one write is refused.
+ *
+ *     rt staticlib ernavluq
+ *     cc -std=c99 -Iinclude examples/repair.c target/staticlib/libernavluq.a -o target/repair && target/repair
+ */
+#include <inttypes.h>
+#include <stdio.h>
+#include <string.h>
+
+#include "ernavluq.h"
+
+static const char *in_words(size_t number)
+{
+    switch (number) {
+    case ERNAVLUQ_ACCEPTED: return "accepted";
+    case ERNAVLUQ_OUT_OF_RANGE: return "n, the rows, the columns or K lie outside their range";
+    case ERNAVLUQ_WRONG_LENGTH: return "a buffer is not exactly as long as it should be";
+    case ERNAVLUQ_BIT_PAST_END: return "a word has a bit past the last column, or a spare bit is 1";
+    case ERNAVLUQ_MALFORMED: return "the metadata is not well formed, or a counter is above K";
+    case ERNAVLUQ_SAME_POINTER: return "two active entries hold the same pointer";
+    case ERNAVLUQ_NO_ENTRY_LEFT: return "the row has no entry left";
+    case ERNAVLUQ_UNMASKABLE: return "the faults of the block cannot be masked for this data";
+    default: return "no number that a call answers";
+    }
+}
+
+/* A pointer row of six entries keeps a text of 64 bytes, though three of its cells are stuck at 1. */
+static int repair_a_row(void)
+{
+    enum { ENTRIES = 6 };
+    const char text[ERNAVLUQ_ROW_BYTES] = "glucose 5.4 mmol/l, drawn 07:40, sample 1183";
+    uint8_t data[ERNAVLUQ_ROW_BYTES], out[ERNAVLUQ_ROW_BYTES];
+    uint8_t mask[ERNAVLUQ_ROW_BYTES] = {0}, values[ERNAVLUQ_ROW_BYTES] = {0}, cells[ERNAVLUQ_ROW_BYTES] = {0};
+    uint8_t metadata[ERNAVLUQ_METADATA_BYTES(ENTRIES)] = {0}; /* all zeros: a new row */
+    ernavluq_pointer_write_answer written;
+    ernavluq_pointer_read_answer read;
+
+    memcpy(data, text, sizeof data);
+    /* The memory's own test found three cells of byte 8, the figure 5, that stay 1: bits 0, 1 and 3. The 5 is 0011 0101, so only bits 1 and 3 are wrong. */
+    mask[8] = values[8] = 0x0B;
+
+    written = ernavluq_pointer_write(
+        ENTRIES, data, sizeof data, mask, sizeof mask, values, sizeof values, cells, sizeof cells, metadata, sizeof metadata);
+    printf("row, written:  %s; %zu of %d entries are active, %zu of them new\n", in_words(written.number), written.active, ENTRIES, written.new_entries);
+    printf("  the cells:   \"%.*s\"\n", (int)sizeof cells, (const char *)cells);
+
+    read = ernavluq_pointer_read(ENTRIES, cells, sizeof cells, metadata, sizeof metadata, out, sizeof out);
+    printf("row, read:     %s\n", in_words(read.number));
+    printf("  the data:    \"%.*s\"\n", (int)sizeof out, (const char *)out);
+
+    return written.number == ERNAVLUQ_ACCEPTED && read.number == ERNAVLUQ_ACCEPTED && memcmp(out, data, sizeof data) == 0;
+}
+
+static void print_words(const char *label, const uint64_t *words, size_t count)
+{
+    printf("%s", label);
+    for (size_t i = 0; i < count; i++)
+        printf(" %" PRIx64, words[i]);
+    printf("\n");
+}
+
+/* A grid block of 3 rows and 3 columns with five stuck cells. Each is wrong or right for the data, and here they form a chain: what mends one wrong cell
+ * spoils a right one beside it. Three levels undo that; with two allowed, the same write is refused and touches nothing. */
+static int repair_a_block(void)
+{
+    enum { ROWS = 3, COLUMNS = 3, K = 3 };
+    const uint64_t data[ROWS] = {0, 0, 0};
+    const uint64_t mask[ROWS] = {3, 6, 4};   /* cells 0 and 1 of row 0, 1 and 2 of row 1, 2 of row 2 */
+    const uint64_t values[ROWS] = {1, 2, 4}; /* the first of each row is stuck at 1, the others at 0 */
+    const uint64_t before[ROWS] = {0};
+    uint64_t cells[ROWS] = {0}, out[ROWS];
+    uint8_t counters[ERNAVLUQ_COUNTER_BYTES(ROWS, COLUMNS, K)] = {0};
+    ernavluq_grid_write_answer refused, written;
+    ernavluq_grid_read_answer read;
+    int untouched;
+
+    refused = ernavluq_grid_write(ROWS, COLUMNS, K - 1, data, ROWS, mask, ROWS, values, ROWS, cells, ROWS, counters, sizeof counters);
+    printf("block, K = 2:  refused with number %zu: %s\n", refused.number, in_words(refused.number));
+    untouched = memcmp(cells, before, sizeof cells) == 0;
+    printf("  the cells:   %s\n", untouched ? "as before" : "altered");
+
+    written = ernavluq_grid_write(ROWS, COLUMNS, K, data, ROWS, mask, ROWS, values, ROWS, cells, ROWS, counters, sizeof counters);
+    printf("block, K = 3:  %s; %zu levels for %zu stuck cells\n", in_words(written.number), written.levels, written.faults);
+    print_words("  the cells:  ", cells, ROWS);
+
+    read = ernavluq_grid_read(ROWS, COLUMNS, K, cells, ROWS, counters, sizeof counters, out, ROWS);
+    printf("block, read:   %s\n", in_words(read.number));
+    print_words("  the data:   ", out, ROWS);
+
+    return refused.number == ERNAVLUQ_UNMASKABLE && untouched
+        && written.number == ERNAVLUQ_ACCEPTED && read.number == ERNAVLUQ_ACCEPTED && memcmp(out, data, sizeof data) == 0;
+}
+
+int main(void)
+{
+    int row = repair_a_row();
+    int block = repair_a_block();
+    return row && block ? 0 : 1;
+}

@@ -1,0 +1,126 @@
+/* Repair codes for memory whose cells get stuck: the calls of libernavluq.a, for C99 and C++.
+ *
+ * The machine: x86-64 Linux with the System V ABI, where size_t has 64 bits. The archive links into nothing else, and needs the C library alone.
+ *
+ * What may be passed: everything. A buffer may have any length, NULL with length 0 included, and a number may be any number. Every call ends. It does its
+ * work and answers number 0, or it answers the number of one refusal; then every count in the answer is 0 and no buffer is altered. If several refusals
+ * apply, the answer is the lowest. Each call is proved to do what is said here, for all arguments.
+ *
+ * What the caller owes: after each pointer comes its length in elements, bytes or words, and so many elements stand there. Words are aligned as the machine
+ * aligns a uint64_t. A buffer that is written, one whose pointer is not const, overlaps no other buffer of the call, and no other thread touches it
+ * meanwhile. Nothing is kept after the call, so calls on separate buffers may run at the same time. The caller finds the stuck cells, and keeps metadata
+ * and counters where no cell is stuck.
+ */
+#ifndef ERNAVLUQ_H
+#define ERNAVLUQ_H
+
+#include <stddef.h>
+#include <stdint.h>
+
+#ifdef __cplusplus
+extern "C" {
+#endif
+
+typedef char ernavluq_size_t_has_64_bits[sizeof(size_t) == 8 ? 1 : -1];
+
+/* The number of an answer. */
+enum ernavluq_refusal {
+    ERNAVLUQ_ACCEPTED = 0,
+    ERNAVLUQ_OUT_OF_RANGE = 1,  /* n, the rows, the columns or K lie outside their range */
+    ERNAVLUQ_WRONG_LENGTH = 2,  /* a buffer is not exactly as long as it should be */
+    ERNAVLUQ_BIT_PAST_END = 3,  /* a grid word has a bit past the last column, or a spare bit of metadata or counters is 1 */
+    ERNAVLUQ_MALFORMED = 4,     /* the metadata of a row is not well formed, or a counter is above K */
+    ERNAVLUQ_SAME_POINTER = 5,  /* two active entries hold the same pointer */
+    ERNAVLUQ_NO_ENTRY_LEFT = 6, /* a row needs more entries than it has */
+    ERNAVLUQ_UNMASKABLE = 7     /* the faults of a block cannot be masked for this data */
+};
+
+/* ---- pointer rows: 512 cells, n correction entries and a full bit
+ *
+ * Data, mask, values, cells and output have 64 bytes each: position p is bit p mod 8 of byte p / 8, the lowest bit first. A mask bit of 1 says that the
+ * cell is stuck; the value bit says at what, and is ignored where the cell is sound. The metadata is the row's own record: all zeros when the row is new,
+ * and from then on what the last accepted write left. */
+
+#define ERNAVLUQ_ROW_BYTES 64
+#define ERNAVLUQ_MAX_ENTRIES 10
+/* The bytes of metadata for n entries, n from 1 to ERNAVLUQ_MAX_ENTRIES. */
+#define ERNAVLUQ_METADATA_BYTES(n) ((1 + 10 * (n) + 7) / 8)
+
+typedef struct {
+    size_t number; /* 0, or the refusal */
+} ernavluq_pointer_read_answer;
+
+typedef struct {
+    size_t number;      /* 0, or the refusal */
+    size_t active;      /* the active entries afterwards */
+    size_t new_entries; /* how many of them this write made */
+} ernavluq_pointer_write_answer;
+
+/* Reads a row. Takes n entries (1 to 10), the cells and the metadata. Accepted, out holds for each position its cell, or the replacement bit of the
+ * active entry that names it. Of out only the length counts. Refusals: 1 to 5. */
+ernavluq_pointer_read_answer ernavluq_pointer_read(
+    size_t n,
+    const uint8_t *cells, size_t cells_length,
+    const uint8_t *metadata, size_t metadata_length,
+    uint8_t *out, size_t out_length);
+
+/* Writes data to a row. Takes n entries (1 to 10), the data, which cells are stuck and at what, and the row's metadata as it stands. Accepted, cells
+ * holds what the cells then hold: a stuck cell its stuck value, any other its data bit. The metadata holds the entries: the active ones keep their place
+ * and pointer, and each position whose cell is stuck at the wrong bit has one. Reading the two gives the data. Of the old cells only the length counts.
+ * Refusals: 1 to 6, and 6 exactly where active entries and positions without one are together more than n. */
+ernavluq_pointer_write_answer ernavluq_pointer_write(
+    size_t n,
+    const uint8_t *data, size_t data_length,
+    const uint8_t *mask, size_t mask_length,
+    const uint8_t *values, size_t values_length,
+    uint8_t *cells, size_t cells_length,
+    uint8_t *metadata, size_t metadata_length);
+
+/* ---- grid blocks: rows and columns of cells, a counter for each row and each column, and at most K levels
+ *
+ * Data, mask, values, cells and output have one word a row: bit j is column j. A mask bit of 1 says that the cell is stuck; the value bit says at what,
+ * and is ignored where the cell is sound, except past the last column, where every bit that is read has to be 0. K is not stored with the counters: a
+ * read is given the K of the write. */
+
+#define ERNAVLUQ_MAX_ROWS 64
+#define ERNAVLUQ_MAX_COLUMNS 64
+#define ERNAVLUQ_MAX_LEVELS 3
+/* The bytes of counters, which have 1 bit each for K = 1 and 2 bits each for K = 2 and 3. */
+#define ERNAVLUQ_COUNTER_BYTES(rows, columns, k) ((((rows) + (columns)) * ((k) == 1 ? 1 : 2) + 7) / 8)
+
+typedef struct {
+    size_t number; /* 0, or the refusal */
+} ernavluq_grid_read_answer;
+
+typedef struct {
+    size_t number; /* 0, or the refusal */
+    size_t levels; /* the levels used */
+    size_t faults; /* the stuck cells of the block */
+} ernavluq_grid_write_answer;
+
+/* Reads a block. Takes its rows and columns (1 to 64 each), K (1 to 3), the cells and the counters, whoever made them. Accepted, out holds each cell,
+ * inverted where the smaller of its row's and its column's counter is odd, and 0 past the last column. Of out only the length counts.
+ * Refusals: 1 to 4. */
+ernavluq_grid_read_answer ernavluq_grid_read(
+    size_t rows, size_t columns, size_t k,
+    const uint64_t *cells, size_t cells_length,
+    const uint8_t *counters, size_t counters_length,
+    uint64_t *out, size_t out_length);
+
+/* Writes data to a block. Takes its rows and columns (1 to 64 each), K (1 to 3), the data, which cells are stuck and at what. Accepted, cells holds what
+ * the cells then hold: a stuck cell its stuck value, any other its data bit, inverted where the counters say so. The counters hold how many levels took
+ * each row and each column. Reading the two gives the data. Of the old cells and the old counters only the lengths count.
+ * Refusals: 1, 2, 3 and 7, and 7 exactly where K levels leave a cell stuck at the wrong bit. */
+ernavluq_grid_write_answer ernavluq_grid_write(
+    size_t rows, size_t columns, size_t k,
+    const uint64_t *data, size_t data_length,
+    const uint64_t *mask, size_t mask_length,
+    const uint64_t *values, size_t values_length,
+    uint64_t *cells, size_t cells_length,
+    uint8_t *counters, size_t counters_length);
+
+#ifdef __cplusplus
+}
+#endif
+
+#endif

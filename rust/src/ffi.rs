@@ -1,0 +1,56 @@
+//! The calls of libernavluq.a as include/ernavluq.h declares them: after each pointer its length in elements.
+use crate::answers::{GridReadAnswer, GridWriteAnswer, PointerReadAnswer, PointerWriteAnswer};
+
+extern "C" {
+    pub fn ernavluq_pointer_read(
+        n: usize,
+        cells: *const u8,
+        cells_length: usize,
+        metadata: *const u8,
+        metadata_length: usize,
+        out: *mut u8,
+        out_length: usize,
+    ) -> PointerReadAnswer;
+
+    pub fn ernavluq_pointer_write(
+        n: usize,
+        data: *const u8,
+        data_length: usize,
+        mask: *const u8,
+        mask_length: usize,
+        values: *const u8,
+        values_length: usize,
+        cells: *mut u8,
+        cells_length: usize,
+        metadata: *mut u8,
+        metadata_length: usize,
+    ) -> PointerWriteAnswer;
+
+    pub fn ernavluq_grid_read(
+        rows: usize,
+        columns: usize,
+        k: usize,
+        cells: *const u64,
+        cells_length: usize,
+        counters: *const u8,
+        counters_length: usize,
+        out: *mut u64,
+        out_length: usize,
+    ) -> GridReadAnswer;
+
+    pub fn ernavluq_grid_write(
+        rows: usize,
+        columns: usize,
+        k: usize,
+        data: *const u64,
+        data_length: usize,
+        mask: *const u64,
+        mask_length: usize,
+        values: *const u64,
+        values_length: usize,
+        cells: *mut u64,
+        cells_length: usize,
+        counters: *mut u8,
+        counters_length: usize,
+    ) -> GridWriteAnswer;
+}

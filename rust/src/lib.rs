@@ -1,0 +1,209 @@
+//! Repair codes for memory whose cells get stuck at 0 or 1: pointer rows and grid blocks, over the archive `libernavluq.a`, whose calls are proved.
+//!
+//! Any number and slices of any length may be passed. Every call ends, and it either does its work or gives one [`Refusal`], the lowest that applies; then
+//! no slice is altered. A mask bit of 1 says that a cell is stuck, and the value bit says at what.
+//!
+//! A row of 512 cells, one of them stuck at 1 where the data has a 0:
+//!
+//! ```
+//! # fn main() -> Result<(), ernavluq::Refusal> {
+//! use ernavluq::{metadata_bytes, pointer_read, pointer_write, ROW_BYTES};
+//!
+//! let data = [0; ROW_BYTES];
+//! let (mut mask, mut values) = ([0; ROW_BYTES], [0; ROW_BYTES]);
+//! mask[0] = 1 << 3; // cell 3 is stuck ..
+//! values[0] = 1 << 3; // .. at 1
+//! let mut cells = [0; ROW_BYTES];
+//! let mut metadata = [0; metadata_bytes(6)]; // a new row
+//! let written = pointer_write(6, &data, &mask, &values, &mut cells, &mut metadata)?;
+//! assert_eq!((written.active, written.new), (1, 1));
+//! assert_eq!(cells[0], 1 << 3); // a stuck cell keeps its value
+//!
+//! let mut out = [0xFF; ROW_BYTES];
+//! pointer_read(6, &cells, &metadata, &mut out)?;
+//! assert_eq!(out, data);
+//! # Ok(())
+//! # }
+//! ```
+//!
+//! The same calls from C are in `include/ernavluq.h`.
+mod answers;
+mod ffi;
+mod refusal;
+
+pub use answers::{Answer, GridReadAnswer, GridWriteAnswer, PointerReadAnswer, PointerWriteAnswer};
+pub use refusal::{
+    Refusal, BIT_PAST_END, MALFORMED, NO_ENTRY_LEFT, OUT_OF_RANGE, SAME_POINTER, UNMASKABLE,
+    WRONG_LENGTH,
+};
+
+/// The bytes of a row's data, mask, values, cells and output: position p is bit p mod 8 of byte p / 8, the lowest first.
+pub const ROW_BYTES: usize = 64;
+
+/// The bytes of metadata of a row with `n` entries, 1 to 10.
+pub const fn metadata_bytes(n: usize) -> usize {
+    n.saturating_mul(10).saturating_add(1).div_ceil(8)
+}
+
+/// The bytes of counters of a block: 1 bit for each row and column where `k` is 1, and 2 bits where it is 2 or 3.
+pub const fn counter_bytes(rows: usize, columns: usize, k: usize) -> usize {
+    let width = if k == 1 { 1 } else { 2 };
+    rows.saturating_add(columns)
+        .saturating_mul(width)
+        .div_ceil(8)
+}
+
+fn judged<A: Copy>(answer: A, whole: fn(A) -> Answer) -> Result<A, Refusal> {
+    match whole(answer) {
+        accepted if accepted.number() == 0 => Ok(answer),
+        refused => Err(Refusal { answer: refused }),
+    }
+}
+
+// Every call below lends each slice with its own length, and the borrows keep what is written apart from all else: this is all that the archive asks.
+
+/// Reads a row of `n` entries: `out` gets for each position its cell, or the replacement bit of the active entry that names it.
+///
+/// ```
+/// let mut out = [0; 64];
+/// let refusal = ernavluq::pointer_read(11, &[0; 64], &[0; 8], &mut out).unwrap_err();
+/// assert_eq!(refusal.number(), ernavluq::OUT_OF_RANGE);
+/// assert_eq!(refusal.to_string(), "refusal 1: n, the rows, the columns or K lie outside their range");
+/// ```
+pub fn pointer_read(
+    n: usize,
+    cells: &[u8],
+    metadata: &[u8],
+    out: &mut [u8],
+) -> Result<PointerReadAnswer, Refusal> {
+    // SAFETY: see above.
+    let answer = unsafe {
+        ffi::ernavluq_pointer_read(
+            n,
+            cells.as_ptr(),
+            cells.len(),
+            metadata.as_ptr(),
+            metadata.len(),
+            out.as_mut_ptr(),
+            out.len(),
+        )
+    };
+    judged(answer, Answer::PointerRead)
+}
+
+/// Writes `data` to a row of `n` entries: `cells` gets what the cells then hold, and the entries in `metadata` serve what stuck cells show wrong.
+/// `metadata` is all zeros for a new row, and from then on what the last accepted write left.
+///
+/// ```
+/// // One entry, which serves position 511 already; cell 3 is stuck at 1 as well.
+/// let (mut mask, mut cells, mut metadata) = ([0; 64], [0; 64], [0xFF, 0x03]);
+/// mask[0] = 8;
+/// let values = mask;
+/// let refusal = ernavluq::pointer_write(1, &[0; 64], &mask, &values, &mut cells, &mut metadata).unwrap_err();
+/// assert_eq!(refusal.to_string(), "refusal 6: the row has no entry left");
+/// assert_eq!((cells, metadata), ([0; 64], [0xFF, 0x03]));
+/// ```
+pub fn pointer_write(
+    n: usize,
+    data: &[u8],
+    mask: &[u8],
+    values: &[u8],
+    cells: &mut [u8],
+    metadata: &mut [u8],
+) -> Result<PointerWriteAnswer, Refusal> {
+    // SAFETY: see above.
+    let answer = unsafe {
+        ffi::ernavluq_pointer_write(
+            n,
+            data.as_ptr(),
+            data.len(),
+            mask.as_ptr(),
+            mask.len(),
+            values.as_ptr(),
+            values.len(),
+            cells.as_mut_ptr(),
+            cells.len(),
+            metadata.as_mut_ptr(),
+            metadata.len(),
+        )
+    };
+    judged(answer, Answer::PointerWrite)
+}
+
+/// Reads a block, one word a row with column j at bit j: `out` gets each cell, inverted where the smaller of its two counters is odd.
+///
+/// ```
+/// let mut out = [0];
+/// let refusal = ernavluq::grid_read(1, 1, 2, &[0], &[3], &mut out).unwrap_err();
+/// assert_eq!(refusal.to_string(), "refusal 4: the metadata is not well formed, or a counter is above K");
+/// ```
+pub fn grid_read(
+    rows: usize,
+    columns: usize,
+    k: usize,
+    cells: &[u64],
+    counters: &[u8],
+    out: &mut [u64],
+) -> Result<GridReadAnswer, Refusal> {
+    // SAFETY: see above.
+    let answer = unsafe {
+        ffi::ernavluq_grid_read(
+            rows,
+            columns,
+            k,
+            cells.as_ptr(),
+            cells.len(),
+            counters.as_ptr(),
+            counters.len(),
+            out.as_mut_ptr(),
+            out.len(),
+        )
+    };
+    judged(answer, Answer::GridRead)
+}
+
+/// Writes `data` to a block with at most `k` levels: `cells` gets what the cells then hold, and `counters` how many levels took each row and column.
+/// A read has to be given the same `k`.
+///
+/// ```
+/// # fn main() -> Result<(), ernavluq::Refusal> {
+/// // One cell, stuck at 0, that should hold a 1.
+/// let (mut cells, mut counters, mut out) = ([0], [0], [0]);
+/// let written = ernavluq::grid_write(1, 1, 1, &[1], &[1], &[0], &mut cells, &mut counters)?;
+/// assert_eq!((written.levels, written.faults), (1, 1));
+/// ernavluq::grid_read(1, 1, 1, &cells, &counters, &mut out)?;
+/// assert_eq!((cells, out), ([0], [1]));
+/// # Ok(())
+/// # }
+/// ```
+#[allow(clippy::too_many_arguments)] // those of the call
+pub fn grid_write(
+    rows: usize,
+    columns: usize,
+    k: usize,
+    data: &[u64],
+    mask: &[u64],
+    values: &[u64],
+    cells: &mut [u64],
+    counters: &mut [u8],
+) -> Result<GridWriteAnswer, Refusal> {
+    // SAFETY: see above.
+    let answer = unsafe {
+        ffi::ernavluq_grid_write(
+            rows,
+            columns,
+            k,
+            data.as_ptr(),
+            data.len(),
+            mask.as_ptr(),
+            mask.len(),
+            values.as_ptr(),
+            values.len(),
+            cells.as_mut_ptr(),
+            cells.len(),
+            counters.as_mut_ptr(),
+            counters.len(),
+        )
+    };
+    judged(answer, Answer::GridWrite)
+}

@@ -1,0 +1,51 @@
+//! A call that was refused, its number by name and in words.
+use crate::answers::Answer;
+use std::error::Error;
+use std::fmt;
+
+/// n, the rows, the columns or K lie outside their range.
+pub const OUT_OF_RANGE: usize = 1;
+/// A buffer is not exactly as long as it should be.
+pub const WRONG_LENGTH: usize = 2;
+/// A grid word has a bit past the last column, or a spare bit of metadata or counters is 1.
+pub const BIT_PAST_END: usize = 3;
+/// The metadata of a row is not well formed, or a counter is above K.
+pub const MALFORMED: usize = 4;
+/// Two active entries hold the same pointer.
+pub const SAME_POINTER: usize = 5;
+/// A row needs more entries than it has.
+pub const NO_ENTRY_LEFT: usize = 6;
+/// The faults of a block cannot be masked for this data.
+pub const UNMASKABLE: usize = 7;
+
+/// A call that was refused: the lowest refusal that applies. No buffer was altered.
+#[derive(Clone, Copy, Debug, PartialEq, Eq)]
+pub struct Refusal {
+    /// The whole answer; every count in it is 0.
+    pub answer: Answer,
+}
+
+impl Refusal {
+    /// The number of the refusal.
+    pub fn number(&self) -> usize {
+        self.answer.number()
+    }
+}
+
+impl fmt::Display for Refusal {
+    fn fmt(&self, f: &mut fmt::Formatter<'_>) -> fmt::Result {
+        let words = match self.number() {
+            OUT_OF_RANGE => "n, the rows, the columns or K lie outside their range",
+            WRONG_LENGTH => "a buffer is not exactly as long as it should be",
+            BIT_PAST_END => "a word has a bit past the last column, or a spare bit is 1",
+            MALFORMED => "the metadata is not well formed, or a counter is above K",
+            SAME_POINTER => "two active entries hold the same pointer",
+            NO_ENTRY_LEFT => "the row has no entry left",
+            UNMASKABLE => "the faults of the block cannot be masked for this data",
+            _ => "no number that a call answers",
+        };
+        write!(f, "refusal {}: {words}", self.number())
+    }
+}
+
+impl Error for Refusal {}

@@ -1,0 +1,284 @@
+//! The cases of document 01 through the wrapper.
+use ernavluq::*;
+
+/// A row of zeros with cells stuck at 1: the answer, and the metadata afterwards. A refusal leaves cells and metadata, and a read gives the data.
+fn write_row(
+    n: usize,
+    stuck_at_1: &[usize],
+    before: &[u8],
+) -> (Result<PointerWriteAnswer, Refusal>, Vec<u8>) {
+    let (data, mut mask, mut cells, mut metadata) = ([0; 64], [0; 64], [0xA5; 64], before.to_vec());
+    for p in stuck_at_1 {
+        mask[p / 8] |= 1 << (p % 8);
+    }
+    let values = mask;
+    let answer = pointer_write(n, &data, &mask, &values, &mut cells, &mut metadata);
+    if answer.is_ok() {
+        let mut out = [0xFF; 64];
+        assert_eq!(cells, values);
+        assert_eq!(
+            pointer_read(n, &cells, &metadata, &mut out),
+            Ok(PointerReadAnswer { number: 0 })
+        );
+        assert_eq!(out, data);
+    } else {
+        assert_eq!((cells, &metadata[..]), ([0xA5; 64], before));
+    }
+    (answer, metadata)
+}
+
+fn row(
+    active: usize,
+    new: usize,
+    metadata: &[u8],
+) -> (Result<PointerWriteAnswer, Refusal>, Vec<u8>) {
+    (
+        Ok(PointerWriteAnswer {
+            number: 0,
+            active,
+            new,
+        }),
+        metadata.to_vec(),
+    )
+}
+
+fn no_row(number: usize, metadata: &[u8]) -> (Result<PointerWriteAnswer, Refusal>, Vec<u8>) {
+    let answer = Answer::PointerWrite(PointerWriteAnswer {
+        number,
+        active: 0,
+        new: 0,
+    });
+    (Err(Refusal { answer }), metadata.to_vec())
+}
+
+#[test]
+fn p1_reads_the_replacement() {
+    let mut out = [0xFF; 64];
+    pointer_read(2, &[0; 64], &[0x0A, 0x0C, 0x00], &mut out).unwrap();
+    assert_eq!((out[0], &out[1..]), (1 << 5, &[0; 63][..]));
+}
+
+#[test]
+fn p2_to_p6() {
+    assert_eq!(write_row(1, &[511], &[0; 2]), row(1, 1, &[0xFF, 0x03]));
+    assert_eq!(
+        write_row(1, &[511], &[0xFF, 0x03]),
+        row(1, 0, &[0xFF, 0x03])
+    );
+    assert_eq!(
+        write_row(1, &[3], &[0xFF, 0x03]),
+        no_row(NO_ENTRY_LEFT, &[0xFF, 0x03])
+    );
+    assert_eq!(
+        write_row(2, &[3, 300], &[0; 3]),
+        row(2, 2, &[0x07, 0x60, 0x09])
+    );
+    assert_eq!(
+        write_row(2, &[3, 300, 301], &[0; 3]),
+        no_row(NO_ENTRY_LEFT, &[0; 3])
+    );
+    assert_eq!(
+        write_row(3, &[], &[0, 0, 0x40, 0]),
+        no_row(MALFORMED, &[0, 0, 0x40, 0])
+    );
+    assert_eq!(
+        write_row(2, &[], &[1, 0, 0]),
+        no_row(SAME_POINTER, &[1, 0, 0])
+    );
+    assert_eq!(
+        write_row(2, &[], &[0, 0, 0x20]),
+        no_row(BIT_PAST_END, &[0, 0, 0x20])
+    );
+}
+
+#[test]
+fn p7_numbers_and_lengths() {
+    for (n, accepted) in [
+        (0, false),
+        (1, true),
+        (10, true),
+        (11, false),
+        (usize::MAX, false),
+    ] {
+        let metadata = vec![0; metadata_bytes(n.min(11))];
+        let want = if accepted {
+            row(0, 0, &metadata)
+        } else {
+            no_row(OUT_OF_RANGE, &metadata)
+        };
+        assert_eq!(write_row(n, &[], &metadata), want);
+    }
+    for bytes in [0, 63, 64, 65] {
+        let (mut cells, mut metadata) = ([0; 64], [0; 8]);
+        let answer = pointer_write(
+            6,
+            &vec![0; bytes],
+            &[0; 64],
+            &[0; 64],
+            &mut cells,
+            &mut metadata,
+        );
+        assert_eq!(
+            answer.map_err(|refusal| refusal.number()).err(),
+            (bytes != 64).then_some(WRONG_LENGTH)
+        );
+    }
+}
+
+/// A square block of zeros: the answer, the counters and the cells afterwards. A refusal leaves both, and a read gives the data.
+fn write_block(
+    k: usize,
+    mask: &[u64],
+    values: &[u64],
+) -> (Result<GridWriteAnswer, Refusal>, Vec<u8>, Vec<u64>) {
+    let n = mask.len();
+    let (data, mut cells, mut counters) =
+        (vec![0; n], vec![9; n], vec![0xA5; counter_bytes(n, n, k)]);
+    let answer = grid_write(n, n, k, &data, mask, values, &mut cells, &mut counters);
+    if answer.is_ok() {
+        let mut out = vec![9; n];
+        assert_eq!(
+            grid_read(n, n, k, &cells, &counters, &mut out),
+            Ok(GridReadAnswer { number: 0 })
+        );
+        assert_eq!(out, data);
+    } else {
+        assert_eq!(
+            (&cells, &counters),
+            (&vec![9; n], &vec![0xA5; counter_bytes(n, n, k)])
+        );
+    }
+    (answer, counters, cells)
+}
+
+fn block(
+    levels: usize,
+    faults: usize,
+    counters: &[u8],
+    cells: &[u64],
+) -> (Result<GridWriteAnswer, Refusal>, Vec<u8>, Vec<u64>) {
+    (
+        Ok(GridWriteAnswer {
+            number: 0,
+            levels,
+            faults,
+        }),
+        counters.to_vec(),
+        cells.to_vec(),
+    )
+}
+
+fn block_number(k: usize, mask: &[u64], values: &[u64]) -> usize {
+    let refusal = write_block(k, mask, values).0.unwrap_err();
+    assert_eq!(
+        refusal.answer,
+        Answer::GridWrite(GridWriteAnswer {
+            number: refusal.number(),
+            levels: 0,
+            faults: 0
+        })
+    );
+    refusal.number()
+}
+
+#[test]
+fn g3_to_g9() {
+    assert_eq!(
+        write_block(3, &[3, 2], &[1, 2]),
+        block(2, 3, &[0x96], &[1, 3])
+    );
+    assert_eq!(block_number(1, &[3, 2], &[1, 2]), UNMASKABLE);
+    for k in 1..=3 {
+        assert_eq!(block_number(k, &[3, 3], &[1, 2]), UNMASKABLE);
+    }
+    assert_eq!(
+        write_block(3, &[3, 6, 4], &[1, 2, 4]),
+        block(3, 5, &[0x5E, 0x0B], &[1, 3, 7])
+    );
+    assert_eq!(block_number(2, &[3, 6, 4], &[1, 2, 4]), UNMASKABLE);
+    assert_eq!(block_number(3, &[3, 6, 12, 8], &[1, 2, 4, 8]), UNMASKABLE);
+    assert_eq!(
+        write_block(1, &[3, 2], &[2, 0]),
+        block(1, 3, &[0x09], &[2, 0])
+    );
+    assert_eq!(block_number(0, &[0], &[0]), OUT_OF_RANGE);
+    assert_eq!(block_number(4, &[0], &[0]), OUT_OF_RANGE);
+    assert_eq!(block_number(1, &[2], &[0]), BIT_PAST_END);
+    assert_eq!(block_number(1, &[0; 65], &[0; 65]), OUT_OF_RANGE);
+    assert_eq!(
+        write_block(1, &[0; 64], &[0; 64]),
+        block(0, 0, &[0; 16], &[0; 64])
+    );
+}
+
+#[test]
+fn g1_g2_and_g10() {
+    let (mut cells, mut counters, mut out) = ([9; 2], [0xA5], [9]);
+    let answer = grid_write(
+        2,
+        2,
+        1,
+        &[1, 2],
+        &[0; 2],
+        &[0; 2],
+        &mut cells,
+        &mut counters,
+    );
+    assert_eq!(
+        (answer, cells, counters),
+        (
+            Ok(GridWriteAnswer {
+                number: 0,
+                levels: 0,
+                faults: 0
+            }),
+            [1, 2],
+            [0]
+        )
+    );
+    let answer = grid_write(1, 1, 1, &[1], &[1], &[0], &mut cells[..1], &mut counters);
+    assert_eq!(
+        (answer, cells[0], counters),
+        (
+            Ok(GridWriteAnswer {
+                number: 0,
+                levels: 1,
+                faults: 1
+            }),
+            0,
+            [3]
+        )
+    );
+    assert_eq!(
+        grid_read(1, 1, 2, &[0], &[3], &mut out)
+            .unwrap_err()
+            .number(),
+        MALFORMED
+    );
+    assert_eq!(out, [9]);
+    assert_eq!(
+        (grid_read(1, 1, 3, &[0], &[0x0F], &mut out).is_ok(), out),
+        (true, [1])
+    );
+}
+
+#[test]
+fn a_refusal_speaks() {
+    let refusal: Box<dyn std::error::Error> =
+        Box::new(grid_read(0, 1, 1, &[], &[], &mut []).unwrap_err());
+    assert_eq!(
+        refusal.to_string(),
+        "refusal 1: n, the rows, the columns or K lie outside their range"
+    );
+    for number in 1..=7 {
+        let told = Refusal {
+            answer: Answer::GridRead(GridReadAnswer { number }),
+        }
+        .to_string();
+        assert!(
+            told.starts_with(&format!("refusal {number}: "))
+                && !told.ends_with("no number that a call answers"),
+            "{told}"
+        );
+    }
+}
