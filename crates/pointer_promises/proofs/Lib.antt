@@ -11,3 +11,4 @@ pub mod AfterLaws
 pub mod Demands
 pub mod Unique
 pub mod Examples
+pub mod Edges
