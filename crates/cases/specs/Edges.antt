@@ -37,6 +37,8 @@ rowEdges =
     ∷ record { call = pointerWrite 2 (ones (5 ∷ [])) (ones []) (ones []) old (0x0A ∷ 0x08 ∷ 0x00 ∷ []); expected = wrote 1 0 (5 ∷ []) (0x0A ∷ 0x0C ∷ 0x00 ∷ []) }
     -- it keeps its place: it names 300, and the new entry after it 3. Two are active, and one of them is new
     ∷ record { call = zeroWrite 2 (3 ∷ []) (3 ∷ []) (0x58 ∷ 0x0A ∷ 0x00 ∷ []); expected = wrote 2 1 (3 ∷ []) (0x59 ∷ 0x1A ∷ 0x00 ∷ []) }
+    -- an entry between the last active one and the last is 0
+    ∷ record { call = zeroWrite 3 (3 ∷ []) (3 ∷ []) (0 ∷ 0 ∷ 0 ∷ 0 ∷ []); expected = wrote 1 1 (3 ∷ []) (0x06 ∷ 0x00 ∷ 0x20 ∷ 0x00 ∷ []) }
     -- n may be 10, and nine ones fill the field in which the last entry counts; so many are read back
     ∷ record { call = zeroWrite 10 nine nine (replicate 13 0); expected = wrote 9 9 nine nineOfTen }
     ∷ record { call = pointerRead 10 (ones nine) nineOfTen old; expected = record { numbers = 0 ∷ []; buffers = ones [] ∷ [] } }
@@ -74,6 +76,8 @@ blockEdges =
     ∷ record { call = gridWrite G3 2 (7 ∷ 8 ∷ []) (9 ∷ []); expected = masked 2 3 (1 ∷ 3 ∷ []) (0x96 ∷ []) (2 ∷ 1 ∷ 1 ∷ 2 ∷ []) }
     -- a read takes counters that no write makes: rows 3 and 1, columns 2 and 0
     ∷ record { call = gridRead 2 2 3 (3 ∷ 3 ∷ []) (0x27 ∷ []) (7 ∷ 8 ∷ []); expected = shown (3 ∷ 2 ∷ []) }
+    -- G10: a counter above K; the output stays as it was
+    ∷ record { call = gridRead 2 2 2 (3 ∷ 3 ∷ []) (0xC0 ∷ []) (7 ∷ 8 ∷ []); expected = record { numbers = 4 ∷ []; buffers = (7 ∷ 8 ∷ []) ∷ [] } }
     -- with 64 columns no bit is past the last
     ∷ record { call = gridRead 1 64 1 (0xFFFFFFFFFFFFFFFF ∷ []) (replicate 9 0) (7 ∷ []); expected = shown (0xFFFFFFFFFFFFFFFF ∷ []) }
     ∷ []
