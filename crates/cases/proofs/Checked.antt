@@ -1,4 +1,4 @@
--- The one test: every call of the table comes to its line; so does whatever meets its promise. Assumes nothing.
+-- The one test: every call of the tables comes to its line; so does whatever meets its promise. Assumes nothing.
 use mathlib.Core.Path.{_≡_, refl, subst}
 use mathlib.Core.Bool.{xor}
 use mathlib.Core.List.{List, [], _∷_, map, head-eq-of-cons-eq, tail-eq-of-cons-eq}

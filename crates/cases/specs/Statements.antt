@@ -1,4 +1,4 @@
--- What is proved of the table: by the definitions each call comes to its line, and whatever meets the promise of a call ends as its line says. (That the
+-- What is proved of the tables: by the definitions each call comes to its line, and whatever meets the promise of a call ends as its line says. (That the
 -- calls do meet their promises is proved of their code, in the crates pointer and grid.) Assumes nothing.
 use Prim.Native.Nat.{ℕ}
 use mathlib.Core.Path.{_≡_}
