@@ -1,6 +1,6 @@
 -- Laws of the bits of numbers and of words made of bits, and of the machine's operations on words. Assumes nothing.
 use mathlib.Core.Path.{_≡_, refl, sym, ap, ap₂, subst, _∙_}
-use mathlib.Core.Bool.{Bool, true, false, not, xor, _&&_, _||_}
+use mathlib.Core.Bool.{Bool, true, false, xor, _&&_, _||_}
 use mathlib.Core.Logic.{_↔_, _≢_, _⊎_, ⊎-elim}
 use Prim.Native.Nat.{ℕ, zero, suc, _+_, _-_, _*_, _/_, _%_, _^_, _≤_, _<_, min, max}
 use native.Mathlib.Nat.{mod-lt, mod-one, mod-eq-of-lt, div-one, div-eq-of-lt, lt-of-lt-of-le, pow-suc}
@@ -168,22 +168,6 @@ unfolding has xor
 has-xor a b j =
     ap (λ x. eqb (x % 2) 1) (xor-shr a b j ∙ xor-step (a / 2 ^ j) (b / 2 ^ j))
     ∙ last-digit differ xor (refl, refl, refl, refl) (a / 2 ^ j % 2) (b / 2 ^ j % 2) (bitXor (a / 2 ^ j / 2) (b / 2 ^ j / 2)) (omega arith) (omega arith)
-
--- ---- the complement of n bits: 2 ^ n - 1 - x
-
-word-not : (n : ℕ) (f : ℕ → Bool) → word n (λ i. not (f i)) + word n f + 1 ≡ 2 ^ n
-unfolding word
-word-not zero f = refl
-word-not (suc n) f = go (f n) (word-not n f)
-  where
-    go : (t : Bool) → word n (λ i. not (f i)) + word n f + 1 ≡ 2 ^ n → num (not t) * 2 ^ n + word n (λ i. not (f i)) + (num t * 2 ^ n + word n f) + 1 ≡ 2 ^ suc n
-    go true h = omega (arith, pow-suc 2 n)
-    go false h = omega (arith, pow-suc 2 n)
-
-pub has-not : (n x j : ℕ) → x < 2 ^ n → j < n → has (2 ^ n - 1 - x) j ≡ not (has x j)
-has-not n x j l k =
-    let e : word n (λ i. not (has x i)) ≡ 2 ^ n - 1 - x = omega (arith, word-not n (has x), word-has n x, mod-eq-of-lt l) in
-    ap (λ y. has y j) (sym e) ∙ has-word n (λ i. not (has x i)) j k
 
 -- ---- words that code builds
 

@@ -10,7 +10,7 @@ use native.Mathlib.Decide.{ℕ-discrete}
 use borrow.Author.Tests.{lt-ltb, le-ltb}
 use lib.Dec.{ltb}
 use lib.ListN.{length, getD, take, set, length-append, List·getD-append}
-use lib.Seq.{getD-at, getD-take, length-take-le, take-suc-set, take-length, ext-getD}
+use lib.Seq.{getD-at, take-suc-set, take-length, ext-getD}
 use Rattle.bits.specs.Bits.{num, some, sum, list}
 use Rattle.bits.proofs.TestLaws.{clash, false-when, lt-or-le, num-lt}
 
@@ -144,11 +144,6 @@ list-ext (suc n) f g e = ap₂ (λ l a. l ++ (a ∷ [])) (list-ext n f g (λ k l
 -- a list of n elements is the list of its elements
 pub list-getD : {A : Type 0} (n : ℕ) (f : ℕ → A) (d : A) (xs : List A) → length xs ≡ n → ((i : ℕ) → i < n → getD xs i d ≡ f i) → xs ≡ list n f
 list-getD n f d xs e h = ext-getD d xs (list n f) (e ∙ sym (length-list n f)) (λ i l. let k : i < n = omega arith in h i k ∙ sym (getD-list n f d i k))
-
--- the first a of them
-pub take-list : {A : Type 0} (a n : ℕ) (f : ℕ → A) (d : A) → a ≤ n → take a (list n f) ≡ list a f
-take-list a n f d h =
-    list-getD a f d (take a (list n f)) (length-take-le a (list n f) (rw length-list h)) (λ i l. getD-take a (list n f) i d l ∙ getD-list n f d i (omega arith))
 
 -- a loop that fills a list from the front: one element more, and all of them
 pub list-more : {A : Type 0} (i : ℕ) (f : ℕ → A) (a : A) (xs : List A) → i < length xs → take i xs ≡ list i f → a ≡ f i → take (i + 1) (set xs i a) ≡ list (i + 1) f

@@ -10,7 +10,7 @@ use Rattle.pointer_promises.specs.Pointer.{active, held, encode, verdict}
 use Rattle.pointer_promises.specs.Refusals.{InRange, outOfRange}
 use Rattle.pointer_promises.proofs.FormedLaws.{active-is}
 use Rattle.pointer_promises.proofs.RefusalLaws.{range-iff}
-use Rattle.cases.specs.Lines.{Line, Call, metadata, pointerRead, pointerWrite, gridWrite, byNumber, countersIn, line}
+use Rattle.cases.specs.Lines.{Line, Call, metadata, pointerRead, pointerWrite, gridRead, gridWrite, byNumber, countersIn, line}
 use Rattle.cases.specs.Statements.{Promised}
 
 -- an ending x with the number of its call is what the number says
@@ -46,6 +46,14 @@ promised-write n wanted mask values cells m answer cells′ m′ w =
     (λ z i. record { numbers = z i ∷ w .counts z .0 i ∷ w .counts z .1 i ∷ []; buffers = w .stores z i ∷ w .encodes z i ∷ [] })
     (λ z. let (p, q, c, d) = w .refused z in λ i. record { numbers = answer .number ∷ p i ∷ q i ∷ []; buffers = c i ∷ d i ∷ [] })
 
+promised-grid-read : (m n k : ℕ) (cells counters out : List ℕ) → Promised (gridRead m n k cells counters out) (line (gridRead m n k cells counters out))
+unfolding line
+promised-grid-read m n k cells counters out answer out′ r =
+    let e = r .exactly in
+    by-number (answer .number) _ _ _ (λ x. record { numbers = x ∷ []; buffers = out ∷ [] }) (e .number)
+    (λ z i. record { numbers = z i ∷ []; buffers = e .shown z i ∷ [] })
+    (λ z i. record { numbers = answer .number ∷ []; buffers = e .untouched (omega arith) i ∷ [] })
+
 promised-grid : (b : Block) (k : ℕ) (cells counters : List ℕ) → Promised (gridWrite b k cells counters) (line (gridWrite b k cells counters))
 unfolding line
 promised-grid b k cells counters answer cells′ counters′ w =
@@ -61,4 +69,5 @@ pub promised : (c : Call) → Promised c (line c)
 promised (metadata n es) = promised-metadata n es
 promised (pointerRead n cells m out) = promised-read n cells m out
 promised (pointerWrite n wanted mask values cells m) = promised-write n wanted mask values cells m
+promised (gridRead m n k cells counters out) = promised-grid-read m n k cells counters out
 promised (gridWrite b k cells counters) = promised-grid b k cells counters

@@ -6,9 +6,9 @@ use lib.ListN.{length, getD}
 use Rattle.bits.specs.Bits.{some, at, bytes}
 use Rattle.rdis.specs.Block.{Block, faults}
 use Rattle.rdis.specs.Levels.{plan}
-use Rattle.rdis.specs.Cells.{stored}
-use Rattle.rdis.specs.Packing.{width, inOrder, packed, unpacked}
-use Rattle.grid_promises.specs.Calls.{writeNumber, used, rowsOf, columnsOf}
+use Rattle.rdis.specs.Cells.{stored, reading}
+use Rattle.rdis.specs.Packing.{width, inOrder, packed, unpacked, rowCounter, columnCounter}
+use Rattle.grid_promises.specs.Calls.{readNumber, writeNumber, used, rowsOf, columnsOf}
 use Rattle.pointer_promises.specs.Pointer as pointer
 
 -- a line: the number and the counts, and the buffers afterwards
@@ -26,7 +26,8 @@ pub data Call : Type 0 where
   -- a read and a write of a row of n entries
   pointerRead : ℕ → (cells metadata out : List ℕ) → Call
   pointerWrite : ℕ → (wanted mask values cells metadata : List ℕ) → Call
-  -- a write of a block with K levels
+  -- a read of rows, columns and K, and a write of a block with K levels
+  gridRead : (m n k : ℕ) (cells counters out : List ℕ) → Call
   gridWrite : Block → ℕ → (cells counters : List ℕ) → Call
 
 -- by the number: the first where it is 0, so where the call is accepted, else the second
@@ -56,6 +57,10 @@ line (pointerWrite n wanted mask values cells m) =
       buffers = bytes 64 (pointer.stored wanted mask values) ∷ pointer.encode n (pointer.after wanted mask values (pointer.held n m)) ∷ [];
     })
     (record { numbers = pointer.writeNumber n wanted mask values (length cells) m ∷ 0 ∷ 0 ∷ []; buffers = cells ∷ m ∷ [] })
+line (gridRead m n k cells counters out) =
+    byNumber (readNumber m n k cells counters (length out))
+    (record { numbers = 0 ∷ []; buffers = reading m n (rowCounter (width k) counters) (columnCounter (width k) m counters) cells ∷ [] })
+    (record { numbers = readNumber m n k cells counters (length out) ∷ []; buffers = out ∷ [] })
 line (gridWrite b k cells counters) =
     byNumber (writeNumber b k (length cells) (length counters))
     (record {

@@ -1,19 +1,28 @@
--- What is proved of the table: by the definitions each call comes to its line, and whatever meets the promise of a call ends as its line says. (That the
+-- What is proved of the tables: by the definitions each call comes to its line, and whatever meets the promise of a call ends as its line says. (That the
 -- calls do meet their promises is proved of their code, in the crates pointer and grid.) Assumes nothing.
 use Prim.Native.Nat.{ℕ}
 use mathlib.Core.Path.{_≡_}
 use mathlib.Core.List.{List, [], _∷_, map}
 use Rattle.grid_promises.specs.Promises as grid
+use Rattle.grid_promises.specs.declared.ReadAnswer as gridReadAnswer
 use Rattle.grid_promises.specs.declared.WriteAnswer as gridAnswer
 use Rattle.pointer_promises.specs.Pointer.{held, after, verdict}
 use Rattle.pointer_promises.specs.Promises as pointer
 use Rattle.pointer_promises.specs.declared.ReadAnswer.{ReadAnswer}
 use Rattle.pointer_promises.specs.declared.WriteAnswer.{WriteAnswer}
-use Rattle.cases.specs.Lines.{Line, Call, metadata, pointerRead, pointerWrite, gridWrite, byNumber, countersIn, line}
+use Rattle.cases.specs.Lines.{Line, Call, metadata, pointerRead, pointerWrite, gridRead, gridWrite, byNumber, countersIn, line}
 use Rattle.cases.specs.Table.{Row, table}
+use Rattle.cases.specs.Edges.{rowEdges, blockEdges}
+
+-- each of these calls comes to its line
+abbrev pub Computed : List Row → Type 0
+Computed rows = map (λ r. line (r .call)) rows ≡ map (λ r. r .expected) rows
 
 abbrev pub EveryCase : Type 0
-EveryCase = map (λ r. line (r .call)) table ≡ map (λ r. r .expected) table
+EveryCase = Computed table
+
+abbrev pub EveryEdge : Type 0
+EveryEdge = Computed rowEdges × Computed blockEdges
 
 -- every answer, with the buffers at the end, that meets the promise of a call is this line
 abbrev pub Promised : Call → Line → Type 0
@@ -27,6 +36,8 @@ Promised (pointerRead n cells m out) l =
 Promised (pointerWrite n wanted mask values cells m) l =
     (answer : WriteAnswer) (cells′ m′ : List ℕ) → pointer.Write n wanted mask values cells m answer cells′ m′
     → record { numbers = answer .number ∷ answer .active ∷ answer .new ∷ []; buffers = cells′ ∷ m′ ∷ [] } ≡ l
+Promised (gridRead m n k cells counters out) l =
+    (answer : gridReadAnswer.ReadAnswer) (out′ : List ℕ) → grid.Read m n k cells counters out answer out′ → record { numbers = answer .number ∷ []; buffers = out′ ∷ [] } ≡ l
 -- where it is accepted, the counters that the bytes hold come last
 Promised (gridWrite b k cells counters) l =
     (answer : gridAnswer.WriteAnswer) (cells′ counters′ : List ℕ) → grid.Write b k cells counters answer cells′ counters′
@@ -41,4 +52,4 @@ Every [] = Unit {0}
 Every (r ∷ rs) = Promised (r .call) (r .expected) × Every rs
 
 abbrev pub EveryPromise : Type 0
-EveryPromise = Every table
+EveryPromise = Every table × Every rowEdges × Every blockEdges

@@ -6,12 +6,12 @@ use Prim.Native.Nat.{ℕ, _+_, _%_, _^_, _≤_}
 use native.Mathlib.Omega.{arith}
 use lib.Dec.{eqb}
 use lib.ListN.{length, getD}
-use Rattle.bits.specs.Bits.{list, words, Below}
+use Rattle.bits.specs.Bits.{words, Below}
 use Rattle.bits.proofs.TestLaws.{clash, xor-false}
 use Rattle.bits.proofs.BoundLaws.{list-ext}
 use Rattle.bits.proofs.BitLaws.{has-high}
 use Rattle.bits.proofs.ByteLaws.{words-narrow}
-use Rattle.rdis.specs.Block.{bit, stuck, faults}
+use Rattle.rdis.specs.Block.{bit, faults}
 use Rattle.rdis.specs.Levels.{Outcome, masked, unmaskable, plan}
 use Rattle.rdis.specs.Cells.{flips, holds, stored}
 use Rattle.rdis.specs.Packing.{width, inOrder, packed}
@@ -80,7 +80,7 @@ has-room : (n k : ℕ) (d mask values cells counters : List ℕ) → WriteSized 
 has-room n k d mask values cells counters s used h =
     let r = in-range (length d) n k .0 (s .ranges) in
     can-pack k (length d) n used (length counters)
-    (record { rows = r .rows .1; columns = r .columns .1; levels = omega (arith, r .levels .1); bits = omega (arith, width-holds k (r .levels .1)); size = s .sizes })
+    (record { rows = r .rows .1; columns = r .columns .1; bits = omega (arith, width-holds k (r .levels .1)); size = s .sizes })
 
 pub wrote : (n k : ℕ) (d mask values cells counters : List ℕ) → WriteSized n k d mask values cells counters → writePast (blockOf n d mask values) ≡ false
     → (t : Taken) → (t .used ≤ k) × Follows t (plan (blockOf n d mask values) k) → t .ended ≡ true

@@ -12,7 +12,7 @@ use lib.Dec.{eqb, leb, ltb}
 use lib.ListN.{length, getD, take, drop, set, replicate, drop-of-length-le}
 use lib.Pow.{pow-pos, pow-mono, pow-add, shr-shr, field, shl-exact, shl-lt}
 use lib.Seq.{take-suc-set, getD-drop}
-use Rattle.bits.specs.Bits.{some, list, number, digits, Below}
+use Rattle.bits.specs.Bits.{some, number, digits, Below}
 use Rattle.bits.proofs.BoundLaws.{some-in, none-more, list-getD}
 use Rattle.bits.proofs.DigitLaws.{number-drop, number-step, pow-mul, digits-more, length-digits, getD-digits}
 use Rattle.rdis.specs.Packing.{width, bytesFor, counter, unpacked, spareClear}
@@ -35,16 +35,19 @@ shl-byte x k hx hk =
 
 -- ---- widths
 
-width-by : (k : ℕ) (t : Bool) → leb k 1 ≡ t → (1 ≤ width k) × (width k ≤ 8)
+width-by : (k : ℕ) (t : Bool) → leb k 1 ≡ t → (1 ≤ width k) × (width k ≤ 8) × (2 ^ width k ≤ 8)
 unfolding width
-width-by k true e = rw e (omega arith, omega arith)
-width-by k false e = rw e (omega arith, omega arith)
+width-by k true e = rw e (omega arith, omega arith, omega arith)
+width-by k false e = rw e (omega arith, omega arith, omega arith)
 
 pub width-some : (k : ℕ) → 1 ≤ width k
 width-some k = width-by k (leb k 1) refl .0
 
 pub width-few : (k : ℕ) → width k ≤ 8
 width-few k = width-by k (leb k 1) refl .1
+
+pub bits-few : (k : ℕ) → 2 ^ width k ≤ 8
+bits-few k = width-by k (leb k 1) refl .2
 
 -- ---- a window of digits
 

@@ -8,11 +8,12 @@ use borrow.Author.Tests.{leb-true, ltb-true, eqb-true, eq-eqb, le-leb, lt-leb, l
 use lib.Dec.{eqb, leb, ltb}
 use lib.ListN.{length, getD, replicate, List·getD-append}
 use lib.Pow.{pow-pos}
-use Rattle.bits.specs.Bits.{some, has, num, Below}
+use Rattle.bits.specs.Bits.{some, has, Below}
 use Rattle.bits.proofs.TestLaws.{clash, and-left, and-right}
 use Rattle.bits.proofs.BoundLaws.{some-ext, length-list, sum-num-le}
-use Rattle.rdis.specs.Packing.{width, bytesFor, inOrder, counter, unpacked, spareClear, above}
+use Rattle.rdis.specs.Packing.{width, bytesFor, inOrder, unpacked, spareClear, above}
 use Rattle.rdis.proofs.PackingLaws.{counter-unpacked, in-order-below}
+use Rattle.grid_counters.proofs.PackLaws.{bits-few}
 use Rattle.grid_counters.specs.Promises.{fit, unpackNumber, Unpack, times, few, packable}
 
 -- ---- lengths
@@ -60,39 +61,39 @@ module _ (k n : ℕ) (bs held : List ℕ) (fits : fit k n (length bs) ≡ true) 
 pub record Room (k m n used bytes : ℕ) : Type 0 where
   pub rows : m ≤ 64
   pub columns : n ≤ 64
-  pub levels : used ≤ 8
   pub bits : used < 2 ^ width k
   pub size : bytes ≡ bytesFor (width k) (m + n)
 
-pub not-few : (k m n used bytes : ℕ) → few m n used ≡ false → false ≡ packable k m n used bytes
+pub not-few : (k m n used bytes : ℕ) → few m n ≡ false → false ≡ packable k m n used bytes
 unfolding packable
 not-few k m n used bytes h = rw h
 
-pub tested : (k m n used bytes : ℕ) → few m n used ≡ true → ltb used (2 ^ width k) && fit k (m + n) bytes ≡ packable k m n used bytes
+pub tested : (k m n used bytes : ℕ) → few m n ≡ true → ltb used (2 ^ width k) && fit k (m + n) bytes ≡ packable k m n used bytes
 unfolding packable
 tested k m n used bytes h = rw h
 
-pub lines-few : (m n used : ℕ) → few m n used ≡ true → (m ≤ 64) × (n ≤ 64) × (used ≤ 8)
-lines-few m n used h =
-    let h₁ = and-right (leb m 64) _ h in
-    (leb-true m 64 (and-left _ _ h), leb-true n 64 (and-left _ _ h₁), leb-true used 8 (and-right (leb n 64) _ h₁))
+pub lines-few : (m n : ℕ) → few m n ≡ true → (m ≤ 64) × (n ≤ 64)
+lines-few m n h = (leb-true m 64 (and-left _ _ h), leb-true n 64 (and-right (leb m 64) _ h))
+
+-- what a counter's bits hold is less than there is room for
+pub levels-few : (k used : ℕ) → used < 2 ^ width k → used ≤ 8
+levels-few k used h = omega (arith, bits-few k)
 
 pub has-room : (k m n used bytes : ℕ) → packable k m n used bytes ≡ true → Room k m n used bytes
 unfolding packable
 has-room k m n used bytes h =
-    let (hm, hn, hu) = lines-few m n used (and-left _ _ h) in
-    let h₁ = and-right (few m n used) _ h in
+    let (hm, hn) = lines-few m n (and-left _ _ h) in
+    let h₁ = and-right (few m n) _ h in
     record {
       rows = hm;
       columns = hn;
-      levels = hu;
       bits = ltb-true used (2 ^ width k) (and-left _ _ h₁);
       size = fit-lengths k (m + n) bytes (and-right (ltb used (2 ^ width k)) _ h₁) .1;
     }
 
 pub can-pack : (k m n used bytes : ℕ) → Room k m n used bytes → packable k m n used bytes ≡ true
 can-pack k m n used bytes r =
-    sym (tested k m n used bytes (rw (le-leb m 64 (r .rows), le-leb n 64 (r .columns)) (le-leb used 8 (r .levels))))
+    sym (tested k m n used bytes (rw (le-leb m 64 (r .rows)) (le-leb n 64 (r .columns))))
     ∙ rw (lt-ltb used (2 ^ width k) (r .bits)) (sym (fit-few k (m + n) bytes (omega (arith, r .rows, r .columns))) ∙ eq-eqb bytes (bytesFor (width k) (m + n)) (r .size))
 
 -- no counter is above the number of levels

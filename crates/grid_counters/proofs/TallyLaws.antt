@@ -6,7 +6,7 @@ use native.Mathlib.Omega.{arith}
 use native.Mathlib.Numerals.{add-one}
 use lib.ListN.{getD, take}
 use lib.Seq.{take-append-seam, take-append-add}
-use Rattle.bits.specs.Bits.{num, sum, has, list}
+use Rattle.bits.specs.Bits.{sum, has, list}
 use Rattle.bits.proofs.BoundLaws.{length-list}
 use Rattle.bits.proofs.TestLaws.{num-eqb}
 use Rattle.rdis.specs.Packing.{inOrder}

@@ -33,13 +33,13 @@ pub record Unpack (k n : ℕ) (bs : List ℕ) (c : Counters) : Type 0 where
 unfoldable pub times : List ℕ → ℕ → ℕ → ℕ
 times sets n i = sum n (λ m. num (has (getD sets m 0) i))
 
--- there are at most 64 rows, 64 columns and 8 levels
-abbrev pub few : ℕ → ℕ → ℕ → Bool
-few m n used = leb m 64 && (leb n 64 && leb used 8)
+-- there are at most 64 rows and 64 columns
+abbrev pub few : ℕ → ℕ → Bool
+few m n = leb m 64 && leb n 64
 
 -- so it is, a counter's bits hold the number of the levels, and so many bytes are what the counters take
 unfoldable pub packable : ℕ → ℕ → ℕ → ℕ → ℕ → Bool
-packable k m n used bytes = few m n used && (ltb used (2 ^ width k) && fit k (m + n) bytes)
+packable k m n used bytes = few m n && (ltb used (2 ^ width k) && fit k (m + n) bytes)
 
 -- what a writing of the counters of m rows and n columns leaves
 pub record Pack (k m n used : ℕ) (rows columns before after : List ℕ) : Type 0 where

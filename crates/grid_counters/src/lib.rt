@@ -66,7 +66,7 @@ pub fn unpack(k: usize, count: usize, bytes: &[u8]) -> Counters
 fn packable(k: usize, rows: usize, columns: usize, used: usize, bytes: usize) -> bool
     ensures { λ r. ⌜ r ≡ isPackable k rows columns used bytes ⌝ }
 {
-    if !((rows <= LINES) & ((columns <= LINES) & (used <= LEVELS))) {
+    if !((rows <= LINES) & (columns <= LINES)) {
         return false;
     }
     (used < 1 << packing::width(k)) & fits(k, rows + columns, bytes)

@@ -1,19 +1,16 @@
 -- What is demanded of a read and of a write holds of every one that ends exactly as it should. Assumes nothing.
-use Prim.Native.Nat.{ℕ, _+_, _*_, _/_, _%_, _^_, _<_, _≤_, min}
+use Prim.Native.Nat.{ℕ, _+_, _*_, _%_, _^_, _<_, _≤_, min}
 use mathlib.Core.Path.{_≡_, refl, sym, ap, ap₂, subst, _∙_}
 use mathlib.Core.Bool.{true, not, xor}
 use mathlib.Core.List.{List}
 use mathlib.Core.Logic.{_↔_, inl, inr}
-use native.Mathlib.Nat.{mod-lt}
 use native.Mathlib.Omega.{arith}
 use lib.Dec.{eqb}
 use lib.ListN.{length}
-use lib.Pow.{pow-pos}
-use Rattle.bits.specs.Bits.{number, Below}
+use Rattle.bits.specs.Bits.{Below}
 use Rattle.bits.specs.Lowest.{Lowest}
 use Rattle.bits.proofs.TestLaws.{iff-false, false-iff, iff-stable}
 use Rattle.bits.proofs.LowestLaws.{lowest-none, lowest-is}
-use Rattle.bits.proofs.BitLaws.{has-ext, has-low, has-shr}
 use Rattle.bits.proofs.ByteLaws.{length-words, words-below, has-words}
 use Rattle.rdis.specs.Block.{Block, Sized, bit, stuck, stuckCells}
 use Rattle.rdis.specs.Levels.{Outcome, masked, unmaskable, plan}
@@ -30,17 +27,12 @@ use Rattle.rdis.proofs.CountLaws.{faults-are-cells}
 use Rattle.rdis.proofs.FaultLaws.{levels-by-faults}
 use Rattle.grid_promises.specs.Calls.{used, rowsOf, columnsOf}
 use Rattle.grid_promises.specs.Refusals.{InRange, WriteLengths, ReadRefused, rangeRead, lengthRead, pastRead, spareRead, aboveRead, WriteRefused, rangeWrite, lengthWrite, pastWrite, chainWrite}
-use Rattle.grid_promises.specs.Promises.{Held, ReadExactly, Read, WriteExactly, Write}
+use Rattle.grid_promises.specs.Promises.{ReadExactly, Read, WriteExactly, Write}
 use Rattle.grid_promises.specs.declared.ReadAnswer.{ReadAnswer}
 use Rattle.grid_promises.specs.declared.WriteAnswer.{WriteAnswer}
-use Rattle.grid_promises.proofs.RefusalLaws.{in-range, write-sized, within, past-iff, spare-iff, read-lowest, write-7, write-lowest}
+use Rattle.grid_promises.proofs.RefusalLaws.{in-range, write-sized, within, past-iff, spare-iff, held-is, read-lowest, write-7, write-lowest}
 
 -- ---- a read
-
-held-is : (w t x : ℕ) (bs : List ℕ) → Held w bs t x → counter w bs t ≡ x
-unfolding counter
-held-is w t x bs (l, f) =
-    has-ext w (counter w bs t) x (mod-lt (number 256 bs / 2 ^ (w * t)) (pow-pos w)) l (λ q p. has-low w (number 256 bs / 2 ^ (w * t)) q p ∙ has-shr (number 256 bs) (w * t) q ∙ sym (f q p))
 
 pub read-demands : (m n k : ℕ) (cells counters out : List ℕ) (a : ReadAnswer) (after : List ℕ) → ReadExactly m n k cells counters out a after → Read m n k cells counters out a after
 unfolding reading bit flips
@@ -136,7 +128,7 @@ module _ (b : Block) (k : ℕ) (cells counters : List ℕ) (a : WriteAnswer) (ce
     read-none out l y (lengthRead h) = h (record { cellWords = cells-sized .0; counterBytes = packs .size; outWords = l })
     read-none out l y (pastRead p) = iff-false _ (past-iff (b .columns) cells′) (within (b .columns) cells′ .1 (cells-sized .1)) p
     read-none out l y (spareRead h) = iff-false _ (spare-iff (width k) (b .rows + b .columns) counters′) (ap not (packs .spare)) h
-    read-none out l y (aboveRead t p h) = omega (arith, at-most t p)
+    read-none out l y (aboveRead t x p held h) = omega (arith, at-most t p, held-is (width k) t x counters′ held)
 
     reads-back : (out : List ℕ) → length out ≡ b .rows → Read (b .rows) (b .columns) k cells′ counters′ out (record { number = 0 }) (b .data·)
     reads-back out l = read-demands (b .rows) (b .columns) k cells′ counters′ out (record { number = 0 }) (b .data·) (record {

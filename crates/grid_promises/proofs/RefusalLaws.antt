@@ -1,9 +1,10 @@
 -- The tests of a number test what the refusals say, and the number is the lowest refusal that applies. Assumes nothing.
-use Prim.Native.Nat.{ℕ, _+_, _*_, _^_, _<_, _≤_}
-use mathlib.Core.Path.{_≡_, refl, ap, _∙_}
+use Prim.Native.Nat.{ℕ, _+_, _*_, _/_, _^_, _<_, _≤_}
+use mathlib.Core.Path.{_≡_, refl, sym, ap, _∙_}
 use mathlib.Core.Bool.{true, false, not}
 use mathlib.Core.List.{List}
 use mathlib.Core.Logic.{_↔_, _⊎_, inl, inr, Iff·trans, ⊎-elim}
+use native.Mathlib.Nat.{mod-lt}
 use native.Mathlib.Omega.{arith}
 use borrow.Author.Tests.{leb-false, lt-leb}
 use lib.Dec.{leb}
@@ -14,7 +15,7 @@ use Rattle.bits.specs.Lowest.{Lowest}
 use Rattle.bits.proofs.TestLaws.{clash, lt-or-le, leb-iff, ltb-iff, eqb-iff, not-iff, and-iff, or-iff}
 use Rattle.bits.proofs.LowestLaws.{From, test-first, from-none, from-first}
 use Rattle.bits.proofs.BoundLaws.{none-below, some-none, some-iff}
-use Rattle.bits.proofs.BitLaws.{has-zero, high-bit}
+use Rattle.bits.proofs.BitLaws.{has-zero, has-ext, has-low, has-shr, high-bit}
 use Rattle.bits.proofs.ByteLaws.{past-end, below-all}
 use Rattle.rdis.specs.Block.{Block, bit}
 use Rattle.rdis.specs.Levels.{Outcome, masked, unmaskable, plan}
@@ -22,7 +23,7 @@ use Rattle.rdis.specs.Chains.{HasChain}
 use Rattle.rdis.specs.Packing.{width, bytesFor, counter, spareClear, above}
 use Rattle.rdis.proofs.LevelLaws.{refused-by-chain}
 use Rattle.grid_promises.specs.Calls.{between, inRange, sized, past, readSized, readPast, readNumber, writeSized, writePast, refusal, writeNumber}
-use Rattle.grid_promises.specs.Refusals.{InRange, ReadLengths, WriteLengths, Past, Spare, ReadRefused, rangeRead, lengthRead, pastRead, spareRead, aboveRead, WriteRefused, rangeWrite, lengthWrite, pastWrite, chainWrite}
+use Rattle.grid_promises.specs.Refusals.{InRange, ReadLengths, WriteLengths, Past, Spare, Held, ReadRefused, rangeRead, lengthRead, pastRead, spareRead, aboveRead, WriteRefused, rangeWrite, lengthWrite, pastWrite, chainWrite}
 
 -- ---- each test
 
@@ -81,9 +82,20 @@ read-past-iff m n k cells counters = or-iff _ (past-iff n cells) _ (spare-iff (w
 write-past-iff : (b : Block) → (writePast b ≡ true) ↔ (Past (b .columns) (b .data·) ⊎ (Past (b .columns) (b .mask) ⊎ Past (b .columns) (b .values)))
 write-past-iff b = or-iff _ (past-iff (b .columns) (b .data·)) _ (or-iff _ (past-iff (b .columns) (b .mask)) _ (past-iff (b .columns) (b .values)))
 
-above-iff : (m n k : ℕ) (counters : List ℕ) → (above k (m + n) counters ≡ true) ↔ ((t : ℕ) × (t < m + n) × (k < counter (width k) counters t))
+-- a counter is what its bits make, and nothing else is
+counter-held : (w t : ℕ) (bs : List ℕ) → Held w bs t (counter w bs t)
+unfolding counter
+counter-held w t bs = (mod-lt (number 256 bs / 2 ^ (w * t)) (pow-pos w), λ q p. has-low w (number 256 bs / 2 ^ (w * t)) q p ∙ has-shr (number 256 bs) (w * t) q)
+
+pub held-is : (w t x : ℕ) (bs : List ℕ) → Held w bs t x → counter w bs t ≡ x
+held-is w t x bs (l, f) = let (m, g) = counter-held w t bs in has-ext w (counter w bs t) x m l (λ q p. g q p ∙ sym (f q p))
+
+above-iff : (m n k : ℕ) (counters : List ℕ) → (above k (m + n) counters ≡ true) ↔ ((t : ℕ) × (t < m + n) × ((x : ℕ) × Held (width k) counters t x × (k < x)))
 unfolding above
-above-iff m n k counters = some-iff (m + n) _ _ (λ t. ltb-iff k (counter (width k) counters t))
+above-iff m n k counters = some-iff (m + n) _ _ (λ t. Iff·trans (ltb-iff k (counter (width k) counters t)) (
+  λ h. (counter (width k) counters t, counter-held (width k) t counters, h),
+  λ (x, held, h). rw (held-is (width k) t x counters held) h,
+))
 
 -- ---- a read
 
@@ -98,15 +110,15 @@ module _ (m n k : ℕ) (cells counters : List ℕ) (out : ℕ) where
   read-3 (pastRead h) = inl h
   read-3 (spareRead h) = inr h
 
-  read-4 : ReadRefused m n k cells counters out 4 → (t : ℕ) × (t < m + n) × (k < counter (width k) counters t)
-  read-4 (aboveRead t l h) = (t, l, h)
+  read-4 : ReadRefused m n k cells counters out 4 → (t : ℕ) × (t < m + n) × ((x : ℕ) × Held (width k) counters t x × (k < x))
+  read-4 (aboveRead t x l held h) = (t, l, (x, held, h))
 
   read-some : (y : ℕ) → ReadRefused m n k cells counters out y → (1 ≤ y) × (y ≤ 4)
   read-some y (rangeRead h) = (omega arith, omega arith)
   read-some y (lengthRead h) = (omega arith, omega arith)
   read-some y (pastRead h) = (omega arith, omega arith)
   read-some y (spareRead h) = (omega arith, omega arith)
-  read-some y (aboveRead t l h) = (omega arith, omega arith)
+  read-some y (aboveRead t x l held h) = (omega arith, omega arith)
 
   pub read-lowest : Lowest (ReadRefused m n k cells counters out) (readNumber m n k cells counters out)
   unfolding readNumber
@@ -116,7 +128,7 @@ module _ (m n k : ℕ) (cells counters : List ℕ) (out : ℕ) where
       (test-first P 1 _ _ (omega arith) (Iff·trans (not-iff _ (in-range m n k)) (rangeRead, read-1)) (λ _.
       test-first P 2 _ _ (omega arith) (Iff·trans (not-iff _ (read-sized m n k (length cells) (length counters) out)) (lengthRead, read-2)) (λ _.
       test-first P 3 _ _ (omega arith) (Iff·trans (read-past-iff m n k cells counters) (⊎-elim pastRead spareRead, read-3)) (λ _.
-      test-first P 4 0 _ (omega arith) (Iff·trans (above-iff m n k counters) (λ (t, l, h). aboveRead t l h, read-4)) (λ _.
+      test-first P 4 0 _ (omega arith) (Iff·trans (above-iff m n k counters) (λ (t, l, (x, held, h)). aboveRead t x l held h, read-4)) (λ _.
       from-none P 5 (λ y q p. omega (arith, read-some y p)))))))
 
 -- ---- a write

@@ -1,12 +1,12 @@
 -- What the public functions promise, a field each. Assumes nothing.
-use Prim.Native.Nat.{ℕ, _+_, _*_, _%_, _^_, _<_, _≤_, min}
+use Prim.Native.Nat.{ℕ, _+_, _*_, _%_, _<_, _≤_, min}
 use mathlib.Core.Path.{_≡_}
 use mathlib.Core.Bool.{true, xor}
 use mathlib.Core.List.{List}
 use mathlib.Core.Logic.{_↔_}
 use lib.Dec.{eqb}
 use lib.ListN.{length}
-use Rattle.bits.specs.Bits.{has, number}
+use Rattle.bits.specs.Bits.{number}
 use Rattle.bits.specs.Lowest.{Lowest}
 use Rattle.rdis.specs.Block.{Block, Sized, bit, stuck, faults, stuckCells}
 use Rattle.rdis.specs.Levels.{plan}
@@ -15,13 +15,9 @@ use Rattle.rdis.specs.Chains.{HasChain}
 use Rattle.rdis.specs.Packing.{width, inOrder, packed, rowCounter, columnCounter}
 use Rattle.rdis.specs.Theorems.{LevelsUsed, CountsLevels, withValues}
 use Rattle.grid_promises.specs.Calls.{readNumber, writeNumber, used, rowsOf, columnsOf}
-use Rattle.grid_promises.specs.Refusals.{Past, ReadRefused, WriteRefused}
+use Rattle.grid_promises.specs.Refusals.{Past, Held, ReadRefused, WriteRefused}
 use Rattle.grid_promises.specs.declared.ReadAnswer.{ReadAnswer}
 use Rattle.grid_promises.specs.declared.WriteAnswer.{WriteAnswer}
-
--- x is the number that the w bits of the bytes from bit w t on make
-abbrev pub Held : ℕ → List ℕ → ℕ → ℕ → Type 0
-Held w bs t x = (x < 2 ^ w) × ((q : ℕ) → q < w → has x q ≡ has (number 256 bs) (w * t + q))
 
 -- how a read of m rows and n columns at K = k ends, exactly: lent `out`, which holds `after` at the end
 pub record ReadExactly (m n k : ℕ) (cells counters out : List ℕ) (answer : ReadAnswer) (after : List ℕ) : Type 0 where

@@ -16,7 +16,7 @@ use Rattle.bits.proofs.TestLaws.{num-eqb, lt-or-le}
 use Rattle.bits.proofs.BitLaws.{is-word, one-shl}
 use Rattle.bits.proofs.ByteLaws.{getD-zeros, bytes-ext, bytes-more}
 use Rattle.bits.proofs.DigitLaws.{window-bit}
-use Rattle.pointer_promises.specs.Pointer.{size, unary, idle, renewed, slot, metadataBit, encode}
+use Rattle.pointer_promises.specs.Pointer.{size, unary, renewed, slot, metadataBit, encode}
 use Rattle.pointer.specs.Steps.{digit, digitBit, Noted}
 use Rattle.pointer_promises.proofs.EntryLaws.{getD-renewed}
 use Rattle.pointer_promises.proofs.MetadataLaws.{unary-ones, idle-last, idle-other}

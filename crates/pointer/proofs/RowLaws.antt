@@ -16,7 +16,7 @@ use Rattle.pointer.specs.Steps.{digit, digitBit, Digits, Sized, Marked, 
 use Rattle.pointer_promises.proofs.PositionLaws.{length-positions, positions-ext}
 use Rattle.pointer_promises.proofs.MetadataLaws.{length-held}
 use Rattle.pointer_promises.proofs.NumberLaws.{measured-low, measured-high, measured-in, measured-zero}
-use Rattle.pointer_promises.proofs.AfterLaws.{after-below}
+use Rattle.pointer_promises.proofs.WrittenLaws.{after-below}
 use Rattle.pointer_promises.proofs.Demands.{read-refused, read-accepted, write-refused, write-accepted}
 use Rattle.pointer.proofs.DecodeLaws.{named}
 use Rattle.pointer.proofs.EncodeLaws.{digits-below, encoded}

@@ -18,7 +18,7 @@ use Rattle.pointer_promises.proofs.ServedLaws.{shown-cell, shown-entry,
 use Rattle.pointer_promises.proofs.CodecLaws.{Fits, length-encode, entry-encode, active-encode, formed-encode, held-encode, verdict-encode}
 use Rattle.pointer_promises.proofs.NumberLaws.{Passed, Accepted, read-ok, read-passed, full-exactly, write-zero}
 use Rattle.pointer_promises.proofs.RefusalLaws.{read-lowest, write-lowest}
-use Rattle.pointer_promises.proofs.AfterLaws.{length-after, after-below, after-replacement, after-old, after-serves, after-rises, after-differs, after-shows}
+use Rattle.pointer_promises.proofs.WrittenLaws.{length-after, after-below, after-replacement, after-old, after-serves, after-rises, after-differs, after-shows}
 
 -- ---- a read
 

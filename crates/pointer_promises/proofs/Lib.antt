@@ -7,7 +7,7 @@ pub mod RefusalLaws
 pub mod CodecLaws
 pub mod NumberLaws
 pub mod Inverse
-pub mod AfterLaws
+pub mod WrittenLaws
 pub mod Demands
 pub mod Unique
-pub mod Examples
+pub mod Cases

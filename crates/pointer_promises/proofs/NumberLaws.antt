@@ -11,7 +11,7 @@ use lib.ListN.{length}
 use Rattle.bits.specs.Lowest.{Lowest}
 use Rattle.bits.proofs.TestLaws.{lt-or-le, and-in, and-left, and-right, eqb-iff, false-iff, iff-stable}
 use Rattle.bits.proofs.LowestLaws.{lowest-is}
-use Rattle.pointer_promises.specs.Pointer.{size, spare, active, formed, held, repeats, measured, verdict, readNumber, needed, writeJudged, writeNumber}
+use Rattle.pointer_promises.specs.Pointer.{size, spare, active, formed, held, repeats, measured, verdict, readNumber, needed, writeNumber}
 use Rattle.pointer_promises.specs.Refusals.{InRange, WellFormed, outOfRange, wrongLength, notFormed, samePointer, noEntry, Refused, WriteRefused}
 use Rattle.pointer_promises.proofs.FormedLaws.{formed-iff}
 use Rattle.pointer_promises.proofs.ServedLaws.{twice-iff, none-left-iff}
@@ -61,11 +61,6 @@ measured-ok n fixed m l h f e = sym (measured-in n fixed m true l h (sym (and-in
 pub read-ok : (n cells : ℕ) (m : List ℕ) (out : ℕ) → 1 ≤ n → n ≤ 10 → cells ≡ 64 → length m ≡ size n → out ≡ 64 → readNumber n cells m out ≡ verdict n m
 unfolding readNumber
 read-ok n cells m out l h c e o = rw (c, o, measured-ok n true (length m) l h refl e)
-
-pub write-ok : (n : ℕ) (wanted mask values : List ℕ) (cells : ℕ) (m : List ℕ) → 1 ≤ n → n ≤ 10 → length wanted ≡ 64 → length mask ≡ 64 → length values ≡ 64 → cells ≡ 64
-    → length m ≡ size n → writeJudged n wanted mask values cells m ≡ verdict n m
-unfolding writeJudged
-write-ok n wanted mask values cells m l h w k v c e = rw (w, k, v, c, measured-ok n true (length m) l h refl e)
 
 -- ---- the metadata
 

@@ -3,7 +3,7 @@ use Prim.Native.Nat.{ℕ}
 use mathlib.Core.Path.{_≡_, refl}
 use mathlib.Core.Bool.{false, xor}
 use mathlib.Core.List.{List, [], _∷_}
-use mathlib.Core.Logic.{inl}
+use mathlib.Core.Logic.{inl, inr}
 use lib.Count.{ones, onesIn}
 use lib.Dec.{lit<}
 use Rattle.bits.proofs.TestLaws.{clash}
@@ -32,6 +32,9 @@ shown b k unmaskable = []
 
 abbrev run : Block → ℕ → List (List ℕ)
 run b k = shown b k (plan b k)
+
+abbrev G3 : Block
+G3 = square 2 (3 ∷ 2 ∷ []) (1 ∷ 2 ∷ [])
 
 abbrev G5 : Block
 G5 = square 2 (3 ∷ 3 ∷ []) (1 ∷ 2 ∷ [])
@@ -64,9 +67,23 @@ spare = refl
 abbrev cell : ℕ → ℕ → Cell
 cell i j = record { row = i; column = j }
 
+-- one wrong cell is a chain
+pub alone : IsChain G3 (cell 0 0 ∷ [])
+unfolding faulty differs bit list has xor
+alone = ((lit< tt, lit< tt, refl), inl tt)
+
+-- a chain may start by row and may start by column, and may end on a right cell
+pub by-row : IsChain G3 (cell 0 0 ∷ cell 0 1 ∷ [])
+unfolding faulty differs bit list has xor
+by-row = ((lit< tt, lit< tt, refl), inl (refl, (lit< tt, lit< tt, refl), tt))
+
+pub by-column : IsChain G3 (cell 1 1 ∷ cell 0 1 ∷ [])
+unfolding faulty differs bit list has xor
+by-column = ((lit< tt, lit< tt, refl), inr (refl, (lit< tt, lit< tt, refl), tt))
+
 -- G5 has a chain of five cells, though it has four: the first comes again
 pub round : HasChain G5 5
-unfolding HasChain faulty differs bit list has xor count sum some
+unfolding HasChain faulty differs bit list has xor some
 round = (
   cell 0 0 ∷ cell 0 1 ∷ cell 1 1 ∷ cell 1 0 ∷ cell 0 0 ∷ [],
   refl,

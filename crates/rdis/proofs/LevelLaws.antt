@@ -116,7 +116,6 @@ levels-by-chain b k l r c e =
     record {
       most = most;
       none = no-level b l h;
-      some = one-level b l h;
       reached = λ p. longest b l h (l - 1) (omega arith);
       greatest = no-longer b l h;
     }

@@ -30,7 +30,6 @@ RefusedByChain = (b : Block) (k : ℕ) → (plan b k ≡ unmaskable) ↔ HasChai
 pub record LevelsUsed (b : Block) (k l : ℕ) : Type 0 where
   pub most : l ≤ k
   pub none : (l ≡ 0) ↔ (SomeWrong b → ⊥)
-  pub some : SomeWrong b → 1 ≤ l
   pub reached : 1 ≤ l → HasChain b (2 * l - 1)
   pub greatest : (m : ℕ) → 1 ≤ m → HasChain b (2 * m - 1) → m ≤ l
 

@@ -6,7 +6,6 @@ use borrow.Author.Needs.{needs}
 use borrow.Author.Tests.{not-true, not-false}
 use lib.Dec.{eqb}
 use Rattle.grid_promises.proofs.RefusalLaws.{in-range}
-use Rattle.grid_counters.specs.Promises.{fit}
 use Rattle.grid_checks.specs.Numbers.{judged}
 use Rattle.grid_checks.proofs.JudgeLaws.{out-of-range, in-range-by}
 use Rattle.grid_checks.proofs.number.Statement.{statement}

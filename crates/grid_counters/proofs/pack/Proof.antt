@@ -8,7 +8,7 @@ use Rattle.rdis.specs.Packing.{bytesFor, packed}
 use Rattle.rdis.proofs.PackingLaws.{length-in-order}
 use Rattle.grid_counters.specs.Promises.{times}
 use Rattle.grid_counters.proofs.PackLaws.{width-some, width-few}
-use Rattle.grid_counters.proofs.PromiseLaws.{Room, has-room, counters-fit}
+use Rattle.grid_counters.proofs.PromiseLaws.{Room, has-room, levels-few, counters-fit}
 use Rattle.grid_counters.proofs.pack.Statement.{statement}
 use Rattle.grid_counters.proofs.pack.Tie as tie
 
@@ -28,7 +28,7 @@ pack-spec =
     -- packable-requires
     (λ c κs. search needs)
     -- counters-requires
-    (λ c κs. let r = room (c .before .before) in (r .levels, r .rows, r .columns))
+    (λ c κs. let r = room (c .before .before) in (levels-few _ _ (r .bits), r .rows, r .columns))
     -- add-counters
     (λ c. let r = room (c .before .before .before) in omega (arith, r .rows, r .columns))
     -- array-share-prefix-counters

@@ -21,7 +21,7 @@ packable-spec =
     -- shl-result
     (λ c. omega (arith, c .width .ensures, width-few (c .before .before .args .k)))
     -- add-fits
-    (λ c. let a = c .before .before .args in omega (arith, lines-few (a .rows) (a .columns) (a .used) (not-false _ (c .before .if1 .left))))
+    (λ c. let a = c .before .before .args in omega (arith, lines-few (a .rows) (a .columns) (not-false _ (c .before .if1 .left))))
     -- fits-requires
     (λ c κs. search needs)
     -- returns-2

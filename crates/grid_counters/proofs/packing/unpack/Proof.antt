@@ -8,7 +8,6 @@ use lib.ListN.{length, take, replicate}
 use lib.Seq.{length-take-le}
 use denote.Ref.{now}
 use Rattle.bits.specs.Bits.{number, digits}
-use Rattle.rdis.specs.Packing.{unpacked}
 use Rattle.grid_counters.proofs.PackLaws.{drop-zeros, digits-unpacked}
 use Rattle.grid_counters.proofs.packing.unpack.Statement.{statement}
 use Rattle.grid_counters.proofs.packing.unpack.Tie as tie
