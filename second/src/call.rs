@@ -2,7 +2,8 @@
 
 use std::io::{self, Read, Write};
 
-pub const MOST_ELEMENTS: usize = 512;
+/// A buffer of a call may have so many elements, whether or not the call accepts so many.
+pub const MOST_ELEMENTS: usize = 1024;
 
 /// The arguments of a pointer write, tag 1.
 #[derive(Clone, Debug, PartialEq, Eq)]
@@ -97,7 +98,7 @@ fn next_three_numbers(input: &mut impl Read) -> Result<[u64; 3], Trouble> {
     ])
 }
 
-/// The next count of elements, two bytes, at most 512.
+/// The next count of elements, two bytes, at most 1,024.
 fn next_count(input: &mut impl Read) -> Result<usize, Trouble> {
     let mut bytes = [0; 2];
     input.read_exact(&mut bytes)?;

@@ -1,7 +1,10 @@
 //! Damage that any call can take: wrong lengths, and numbers outside their range.
 
-use crate::call::MOST_ELEMENTS;
 use crate::random::Random;
+
+/// Damaged buffers get no longer than this, below the most that the format allows: so a seed still makes the calls
+/// that were stored when this was the most. `long.rs` has the longer ones.
+const LONGEST: usize = 512;
 
 /// Numbers at the extremes of their type.
 const EXTREMES: [u64; 12] = [
@@ -19,7 +22,7 @@ const EXTREMES: [u64; 12] = [
     u64::MAX,
 ];
 
-/// A length that a buffer of the given length should not have: by one, by many, none at all or the most.
+/// A length that a buffer of the given length should not have: by one, by many, none at all or the longest.
 fn other_length(random: &mut Random, length: usize) -> usize {
     let other = match random.below(14) {
         0..=3 => length + 1,
@@ -28,10 +31,10 @@ fn other_length(random: &mut Random, length: usize) -> usize {
         9 => length + random.between(2, 9),
         10 | 11 if length > 2 => random.below(length - 1),
         12 => length + 8,
-        13 if random.percent(30) => MOST_ELEMENTS,
+        13 if random.percent(30) => LONGEST,
         _ => length * 2,
     };
-    other.min(MOST_ELEMENTS)
+    other.min(LONGEST)
 }
 
 /// Gives a buffer of bytes a wrong length; added bytes are zero or junk.

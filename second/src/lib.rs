@@ -14,6 +14,7 @@ pub mod damage_pointer;
 pub mod faults;
 pub mod grid;
 pub mod levels;
+pub mod long;
 pub mod make;
 pub mod make_grid;
 pub mod make_pointer;

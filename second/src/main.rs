@@ -1,4 +1,4 @@
-//! The commands: `run` makes the calls on standard input, `make` and `cases` put calls out.
+//! The commands: `run` makes the calls on standard input, `make`, `cases` and `long` put calls out.
 
 use std::io::{self, BufReader, BufWriter, Write};
 use std::process::ExitCode;
@@ -6,10 +6,10 @@ use std::process::ExitCode;
 use second::answer;
 use second::call::{next_call, put_call, Call, Trouble};
 use second::make::Maker;
-use second::{cases_grid, cases_pointer};
+use second::{cases_grid, cases_pointer, long};
 
-const USAGE: &str =
-    "usage: second run < calls | second make SEED COUNT > calls | second cases > calls";
+const USAGE: &str = "usage: second run < calls | second make SEED COUNT > calls \
+    | second cases > calls | second long > calls";
 
 /// Makes each call on the input and prints one line a call, until the input ends or a call is bad.
 fn run(output: &mut impl Write) -> Result<(), String> {
@@ -54,6 +54,14 @@ fn cases(output: &mut impl Write) -> Result<(), String> {
     Ok(())
 }
 
+/// Puts out the calls with long buffers.
+fn put_long(output: &mut impl Write) -> Result<(), String> {
+    for call in &long::all() {
+        put(output, call)?;
+    }
+    Ok(())
+}
+
 /// Does what the arguments ask, flushes what was printed, and ends with an error status if it failed.
 fn main() -> ExitCode {
     let arguments: Vec<String> = std::env::args().skip(1).collect();
@@ -63,6 +71,7 @@ fn main() -> ExitCode {
         ["run"] => run(&mut output),
         ["make", seed, count] => make(seed, count, &mut output),
         ["cases"] => cases(&mut output),
+        ["long"] => put_long(&mut output),
         _ => Err(String::from(USAGE)),
     };
     let flushed = output.flush().map_err(|error| error.to_string());

@@ -66,14 +66,36 @@ fn bad_calls_stop_the_run() {
     }
 }
 
+/// A pointer read, n = 1, whose cells are so many bytes and whose other buffers have none.
+fn read_of_bytes(count: u16) -> Vec<u8> {
+    let mut input = vec![2, 1, 0, 0, 0, 0, 0, 0, 0];
+    input.extend(count.to_le_bytes());
+    input.extend(vec![0; usize::from(count)]);
+    input.extend([0, 0, 0, 0]);
+    input
+}
+
+/// A grid read of one cell whose cells are so many words and whose other buffers have none.
+fn read_of_words(count: u16) -> Vec<u8> {
+    let mut input = vec![4];
+    for number in [1u8, 1, 1] {
+        input.extend([number, 0, 0, 0, 0, 0, 0, 0]);
+    }
+    input.extend(count.to_le_bytes());
+    input.extend(vec![0; 8 * usize::from(count)]);
+    input.extend([0, 0, 0, 0]);
+    input
+}
+
 #[test]
-fn a_buffer_holds_at_most_512_elements() {
-    for (count, expected) in [(512u16, "2 -\n"), (513, "bad call\n")] {
-        let mut input = vec![2, 1, 0, 0, 0, 0, 0, 0, 0];
-        input.extend(count.to_le_bytes());
-        input.extend(vec![0; usize::from(count)]);
-        input.extend([0, 0, 0, 0]);
-        assert_eq!(printed(&input), expected);
+fn a_buffer_holds_at_most_1024_elements() {
+    for count in [512, 513, 1023, 1024] {
+        assert_eq!(printed(&read_of_bytes(count)), "2 -\n");
+        assert_eq!(printed(&read_of_words(count)), "2 -\n");
+    }
+    for count in [1025, 2048, u16::MAX] {
+        assert_eq!(printed(&read_of_bytes(count)), "bad call\n");
+        assert_eq!(printed(&read_of_words(count)), "bad call\n");
     }
 }
 
@@ -90,6 +112,15 @@ fn made_calls_run_to_the_end() {
 fn cases_run_to_the_end() {
     let cases = second(&["cases"], &[]).stdout;
     assert_eq!(printed(&cases).lines().count(), 60 + 51);
+}
+
+#[test]
+fn long_calls_print_one_line_each() {
+    let calls = second(&["long"], &[]).stdout;
+    assert_eq!(calls, second(&["long"], &[]).stdout);
+    let lines = printed(&calls);
+    let numbers: String = lines.lines().map(|line| &line[..1]).collect();
+    assert_eq!(numbers, "22222122212222212221");
 }
 
 #[test]
