@@ -1,0 +1,89 @@
+//! Whether archive, peer and second program agree: number, counts and every buffer, call by call.
+
+use second::call::Call;
+
+use crate::calls::{kind_of, Calls, KINDS, NUMBERS};
+use crate::contestant::{make, Answer, Archive, Peer, Second};
+
+/// So many calls of each kind are compared.
+pub const CALLS_OF_A_KIND: usize = 50_000;
+
+/// The seed of the calls.
+const SEED: u64 = 2026;
+
+/// How often each number from 0 to 7 came up, for each kind.
+pub type Tally = [[usize; 8]; 4];
+
+/// Has all three make a call; the number, or what they said and did if they differ.
+fn compare(call: &Call) -> Result<usize, String> {
+    let mut after = [call.clone(), call.clone(), call.clone()];
+    let answers: [Answer; 3] = [
+        make::<Archive>(&mut after[0]),
+        make::<Peer>(&mut after[1]),
+        make::<Second>(&mut after[2]),
+    ];
+    let agree = answers[0] == answers[2]
+        && answers[1] == answers[2]
+        && after[0] == after[2]
+        && after[1] == after[2];
+    if agree {
+        return Ok(answers[2].number);
+    }
+    let mut told = format!("they disagree on this call:\n{call:x?}\n");
+    for (name, (answer, after)) in ["archive", "peer", "second"]
+        .iter()
+        .zip(answers.iter().zip(&after))
+    {
+        told += &format!("{name} answers {answer:?} and leaves\n{after:x?}\n");
+    }
+    Err(told)
+}
+
+/// Compares so many calls of each kind; how often each number came up, or the first call on which they differ.
+pub fn agree(calls_of_a_kind: usize) -> Result<Tally, String> {
+    let mut calls = Calls::new(SEED);
+    let mut compared = [0; 4];
+    let mut tally = [[0; 8]; 4];
+    while compared.iter().any(|count| *count < calls_of_a_kind) {
+        let call = calls.next_call();
+        let kind = kind_of(&call);
+        if compared[kind] < calls_of_a_kind {
+            compared[kind] += 1;
+            tally[kind][compare(&call)?] += 1;
+        }
+    }
+    Ok(tally)
+}
+
+/// An error if a number that a kind can answer never came up, or one that it cannot did.
+fn all_came_up(tally: &Tally) -> Result<(), String> {
+    for (kind, counts) in tally.iter().enumerate() {
+        for (number, times) in counts.iter().enumerate() {
+            if NUMBERS[kind].contains(&number) != (*times > 0) {
+                return Err(format!(
+                    "{}: number {number} came up {times} times",
+                    KINDS[kind]
+                ));
+            }
+        }
+    }
+    Ok(())
+}
+
+/// Compares all the calls and prints how often each number came up; an error if they differ or a refusal is missing.
+pub fn report() -> Result<(), String> {
+    let tally = agree(CALLS_OF_A_KIND)?;
+    println!("archive, peer and second program agree on {CALLS_OF_A_KIND} calls of each kind; they answer");
+    println!();
+    print!("| {:<13} |", "number");
+    (0..8).for_each(|number| print!(" {number:>6} |"));
+    println!();
+    println!("|---|{}", "---:|".repeat(8));
+    for (name, counts) in KINDS.iter().zip(&tally) {
+        print!("| {name:<13} |");
+        counts.iter().for_each(|count| print!(" {count:>6} |"));
+        println!();
+    }
+    println!();
+    all_came_up(&tally)
+}

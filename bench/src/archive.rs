@@ -1,0 +1,166 @@
+//! The archive's four functions, as `include/ernavluq.h` declares them, over slices.
+
+/// What a read answers.
+#[repr(C)]
+#[derive(Clone, Copy)]
+pub struct ReadAnswer {
+    pub number: usize,
+}
+
+/// What a write answers: the number, then active and new entries, or levels and stuck cells.
+#[repr(C)]
+#[derive(Clone, Copy)]
+pub struct WriteAnswer {
+    pub number: usize,
+    pub counts: [usize; 2],
+}
+
+extern "C" {
+    fn ernavluq_pointer_read(
+        n: usize,
+        cells: *const u8,
+        cells_length: usize,
+        metadata: *const u8,
+        metadata_length: usize,
+        out: *mut u8,
+        out_length: usize,
+    ) -> ReadAnswer;
+    fn ernavluq_pointer_write(
+        n: usize,
+        data: *const u8,
+        data_length: usize,
+        mask: *const u8,
+        mask_length: usize,
+        values: *const u8,
+        values_length: usize,
+        cells: *mut u8,
+        cells_length: usize,
+        metadata: *mut u8,
+        metadata_length: usize,
+    ) -> WriteAnswer;
+    fn ernavluq_grid_read(
+        rows: usize,
+        columns: usize,
+        k: usize,
+        cells: *const u64,
+        cells_length: usize,
+        counters: *const u8,
+        counters_length: usize,
+        out: *mut u64,
+        out_length: usize,
+    ) -> ReadAnswer;
+    fn ernavluq_grid_write(
+        rows: usize,
+        columns: usize,
+        k: usize,
+        data: *const u64,
+        data_length: usize,
+        mask: *const u64,
+        mask_length: usize,
+        values: *const u64,
+        values_length: usize,
+        cells: *mut u64,
+        cells_length: usize,
+        counters: *mut u8,
+        counters_length: usize,
+    ) -> WriteAnswer;
+}
+
+/// The archive's pointer read.
+#[inline(always)]
+pub fn pointer_read(n: usize, cells: &[u8], metadata: &[u8], out: &mut [u8]) -> ReadAnswer {
+    // SAFETY: each pointer and length is one slice's, and the borrows keep the changed one apart from the others.
+    unsafe {
+        ernavluq_pointer_read(
+            n,
+            cells.as_ptr(),
+            cells.len(),
+            metadata.as_ptr(),
+            metadata.len(),
+            out.as_mut_ptr(),
+            out.len(),
+        )
+    }
+}
+
+/// The archive's pointer write.
+#[inline(always)]
+pub fn pointer_write(
+    n: usize,
+    data: &[u8],
+    mask: &[u8],
+    values: &[u8],
+    cells: &mut [u8],
+    metadata: &mut [u8],
+) -> WriteAnswer {
+    // SAFETY: as for the pointer read.
+    unsafe {
+        ernavluq_pointer_write(
+            n,
+            data.as_ptr(),
+            data.len(),
+            mask.as_ptr(),
+            mask.len(),
+            values.as_ptr(),
+            values.len(),
+            cells.as_mut_ptr(),
+            cells.len(),
+            metadata.as_mut_ptr(),
+            metadata.len(),
+        )
+    }
+}
+
+/// The archive's grid read; the numbers are rows, columns and K.
+#[inline(always)]
+pub fn grid_read(
+    numbers: [usize; 3],
+    cells: &[u64],
+    counters: &[u8],
+    out: &mut [u64],
+) -> ReadAnswer {
+    // SAFETY: as for the pointer read; a slice of words is aligned.
+    unsafe {
+        ernavluq_grid_read(
+            numbers[0],
+            numbers[1],
+            numbers[2],
+            cells.as_ptr(),
+            cells.len(),
+            counters.as_ptr(),
+            counters.len(),
+            out.as_mut_ptr(),
+            out.len(),
+        )
+    }
+}
+
+/// The archive's grid write; the numbers are rows, columns and K.
+#[inline(always)]
+pub fn grid_write(
+    numbers: [usize; 3],
+    data: &[u64],
+    mask: &[u64],
+    values: &[u64],
+    cells: &mut [u64],
+    counters: &mut [u8],
+) -> WriteAnswer {
+    // SAFETY: as for the grid read.
+    unsafe {
+        ernavluq_grid_write(
+            numbers[0],
+            numbers[1],
+            numbers[2],
+            data.as_ptr(),
+            data.len(),
+            mask.as_ptr(),
+            mask.len(),
+            values.as_ptr(),
+            values.len(),
+            cells.as_mut_ptr(),
+            cells.len(),
+            counters.as_mut_ptr(),
+            counters.len(),
+        )
+    }
+}

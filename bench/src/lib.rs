@@ -1,0 +1,11 @@
+//! Measures the archive of Ernavluq against two peers, after it has checked that all three agree.
+
+pub mod agree;
+pub mod archive;
+pub mod calls;
+pub mod contestant;
+pub mod inputs_grid;
+pub mod inputs_pointer;
+pub mod peer;
+pub mod table;
+pub mod time;
