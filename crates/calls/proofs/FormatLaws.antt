@@ -1,11 +1,13 @@
 -- Laws of what stands in the input. Assumes nothing.
 use mathlib.Core.Path.{_≡_, refl, sym, ap, ap₂, subst, _∙_}
 use mathlib.Core.Bool.{Bool, true, false, not, cond, _&&_}
-use mathlib.Core.List.{List, _++_}
-use Prim.Native.Nat.{ℕ, suc, _+_, _-_, _*_, _^_, _≤_, _<_}
+use mathlib.Core.List.{List, [], _∷_, _++_}
+use Prim.Native.Nat.{ℕ, zero, suc, _+_, _-_, _*_, _^_, _≤_, _<_}
 use native.Mathlib.Nat.{lt-of-lt-of-le, le-trans, mul-le-mul-left}
+use native.Mathlib.Numerals.{add-one}
 use native.Mathlib.Omega.{arith}
-use lib.ListN.{length, getD, take, drop, set, length-take, length-drop}
+use native.Mathlib.Decide.{decLt}
+use lib.ListN.{length, getD, take, drop, set, length-append, length-take, length-drop, List·getD-eq-default}
 use lib.Dec.{eqb, leb}
 use lib.Pow.{pow-mono}
 use lib.Seq.{getD-take, getD-drop, drop-cons, drop-length, length-take-le, take-at, take-length}
@@ -14,7 +16,8 @@ use Rattle.bits.specs.Bits.{number, list, Below}
 use Rattle.bits.proofs.TestLaws.{and-left, and-right, false-when}
 use Rattle.bits.proofs.BoundLaws.{length-list, list-getD, list-more}
 use Rattle.bits.proofs.DigitLaws.{number-lt, number-step, pow-mul}
-use Rattle.calls.specs.Format.{numberAt, many, isBuffer, Stands, elements, afterNumbers, afterBuffer}
+use Rattle.calls.specs.Format.{numberAt, many, isBuffer, Stands, elements, afterNumbers, afterBuffer, table, formOf, width, placeOf, place, formEnd, noForm, Whole}
+use Rattle.calls.specs.declared.input.Form.{Form}
 use Rattle.calls.specs.Calls.{Loaded}
 
 -- ---- numbers
@@ -62,7 +65,7 @@ all-four a b c d h =
 pub is-buffer : (bs : List ℕ) (p w : ℕ) → isBuffer bs p w ≡ true → Stands bs p w
 unfolding isBuffer
 is-buffer bs p w h =
-    let (a, b, c, d) = all-four (not (eqb p 0)) (leb (p + 2) (length bs)) (leb (many bs p) 512) (leb (p + 2 + w * many bs p) (length bs)) h in
+    let (a, b, c, d) = all-four (not (eqb p 0)) (leb (p + 2) (length bs)) (leb (many bs p) 1024) (leb (p + 2 + w * many bs p) (length bs)) h in
     record { place = eqb-false p 0 (not-true (eqb p 0) a); few = leb-true _ _ c; whole = leb-true _ _ d }
 
 pub no-buffer : (bs : List ℕ) (p w : ℕ) → (Stands bs p w → ⊥) → 0 ≡ afterBuffer bs p w
@@ -77,7 +80,7 @@ pub a-buffer : (bs : List ℕ) (p w : ℕ) → Stands bs p w → p + 2 + w * man
 unfolding afterBuffer
 a-buffer bs p w h = rw (buffer-is bs p w h)
 
-pub small : (w n : ℕ) → w ≤ 8 → n ≤ 512 → w * n ≤ 4096
+pub small : (w n : ℕ) → w ≤ 8 → n ≤ 1024 → w * n ≤ 8192
 small w n l k = le-trans (mul-le-mul-left w k) (omega arith)
 
 -- the end of a buffer and that of the numbers, whichever way they are judged
@@ -104,6 +107,109 @@ stands bs p w = after-cases bs p w (λ x. (x ≡ 0 → ⊥) → Stands bs p w) (
 pub numbers-stand : (bs : List ℕ) (n : ℕ) → (afterNumbers bs n ≡ 0 → ⊥) → 1 + 8 * n ≤ length bs
 numbers-stand bs n = numbers-cases bs n (λ x. (x ≡ 0 → ⊥) → 1 + 8 * n ≤ length bs) (λ s _. s) (λ h. absurd (h refl))
 
+-- ---- forms
+
+-- a form has at most four numbers and five buffers, with elements of at most eight bytes
+pub record Small (f : Form) : Type 0 where
+  pub numbers : f .numbers ≤ 4
+  pub buffers : f .buffers ≤ 5
+  pub widths : (i : ℕ) → getD (f .widths) i 0 ≤ 8
+
+abbrev areNarrow : List ℕ → Bool
+areNarrow [] = true
+areNarrow (w ∷ ws) = leb w 8 && areNarrow ws
+
+abbrev areSmall : List Form → Bool
+areSmall [] = true
+areSmall (f ∷ fs) = leb (f .numbers) 4 && leb (f .buffers) 5 && areNarrow (f .widths) && areSmall fs
+
+narrow-at : (ws : List ℕ) → areNarrow ws ≡ true → (i : ℕ) → getD ws i 0 ≤ 8
+narrow-at [] h i = omega arith
+narrow-at (w ∷ ws) h zero = leb-true w 8 (and-left (leb w 8) (areNarrow ws) h)
+narrow-at (w ∷ ws) h (suc i) = narrow-at ws (and-right (leb w 8) (areNarrow ws) h) i
+
+small-at : (fs : List Form) → areSmall fs ≡ true → (tag : ℕ) → Small (getD fs tag noForm)
+small-at [] h tag = record { numbers = omega arith; buffers = omega arith; widths = narrow-at (0 ∷ 0 ∷ 0 ∷ 0 ∷ 0 ∷ []) refl }
+small-at (f ∷ fs) h zero =
+    let (a, b, c, _) = all-four (leb (f .numbers) 4) (leb (f .buffers) 5) (areNarrow (f .widths)) (areSmall fs) h in
+    record { numbers = leb-true _ _ a; buffers = leb-true _ _ b; widths = narrow-at (f .widths) c }
+small-at (f ∷ fs) h (suc tag) = small-at fs (and-right (leb (f .numbers) 4 && leb (f .buffers) 5 && areNarrow (f .widths)) (areSmall fs) h) tag
+
+pub small-form : (tag : ℕ) → Small (formOf tag)
+unfolding formOf table
+small-form tag = small-at table refl tag
+
+pub small-by : {f : Form} (tag : ℕ) → f ≡ formOf tag → Small f
+small-by tag e = subst Small (sym e) (small-form tag)
+
+pub no-form : (tag : ℕ) → (tag ≡ 1 → ⊥) → (tag ≡ 2 → ⊥) → (tag ≡ 3 → ⊥) → (tag ≡ 4 → ⊥) → noForm ≡ formOf tag
+unfolding formOf table
+no-form tag a b c d =
+    elim (decLt tag 1) [
+      | yes l ↦ let z : tag ≡ 0 = omega arith in rw z
+      | no l ↦ sym (List·getD-eq-default table noForm {n = tag} (omega arith))
+    ]
+
+-- the end of a call, whichever way it is judged
+pub form-cases : (bs : List ℕ) (f : Form) (P : ℕ → Type 0) → P (placeOf bs f (f .buffers)) → P 0 → P (formEnd bs f)
+unfolding formEnd
+form-cases bs f P x z = go (eqb (f .buffers) 0)
+  where
+    go : (t : Bool) → P (cond t 0 (placeOf bs f (f .buffers)))
+    go true = z
+    go false = x
+
+pub no-buffers : (bs : List ℕ) (f : Form) → f .buffers ≡ 0 → 0 ≡ formEnd bs f
+unfolding formEnd
+no-buffers bs f e = rw e
+
+pub some-buffers : (bs : List ℕ) (f : Form) → (f .buffers ≡ 0 → ⊥) → placeOf bs f (f .buffers) ≡ formEnd bs f
+unfolding formEnd
+some-buffers bs f h = rw (ne-eqb (f .buffers) 0 h)
+
+-- a loop from place to place: the first, and the next
+pub place-none : (bs : List ℕ) (f : Form) (p : ℕ) → p ≡ afterNumbers bs (f .numbers) → p ≡ placeOf bs f 0
+unfolding placeOf
+place-none bs f p e = e
+
+pub place-next : (bs : List ℕ) (f : Form) (i p q : ℕ) → p ≡ placeOf bs f i → q ≡ afterBuffer bs p (getD (f .widths) i 0) → q ≡ placeOf bs f (i + 1)
+unfolding placeOf
+place-next bs f i p q e h = rw add-one (h ∙ ap (λ x. afterBuffer bs x (getD (f .widths) i 0)) e)
+
+pub place-done : (bs : List ℕ) (f : Form) (tag i j p : ℕ) → f ≡ formOf tag → p ≡ placeOf bs f j → j ≡ i → p ≡ place bs tag i
+place-done bs f tag i j p e h k = h ∙ ap₂ (placeOf bs) e k
+
+pub end-done : (bs : List ℕ) (f : Form) (tag p : ℕ) → f ≡ formOf tag → (f .buffers ≡ 0 → ⊥) → p ≡ place bs tag (f .buffers) → p ≡ formEnd bs (formOf tag)
+end-done bs f tag p e h k = k ∙ ap (λ g. placeOf bs g (f .buffers)) (sym e) ∙ some-buffers bs f h ∙ ap (formEnd bs) e
+
+-- where a call does not end at 0, all its numbers and buffers stand there
+module _ (bs : List ℕ) (f : Form) where
+  pub buffer-stands : (n : ℕ) → (placeOf bs f (suc n) ≡ 0 → ⊥) → Stands bs (placeOf bs f n) (getD (f .widths) n 0)
+  unfolding placeOf
+  buffer-stands n h = stands bs (placeOf bs f n) (getD (f .widths) n 0) h
+
+  buffers-stand : (n i : ℕ) → i < n → (placeOf bs f n ≡ 0 → ⊥) → Stands bs (placeOf bs f i) (getD (f .widths) i 0)
+  buffers-stand zero i l h = absurd (omega arith)
+  buffers-stand (suc n) i l h =
+      elim (decLt i n) [
+        | yes k ↦ buffers-stand n i k (buffer-stands n h .place)
+        | no k ↦ let e : i ≡ n = omega arith in subst (λ j. Stands bs (placeOf bs f j) (getD (f .widths) j 0)) (sym e) (buffer-stands n h)
+      ]
+
+  pub first-numbers : (n : ℕ) → (placeOf bs f n ≡ 0 → ⊥) → 1 + 8 * f .numbers ≤ length bs
+  unfolding placeOf
+  first-numbers zero h = numbers-stand bs (f .numbers) h
+  first-numbers (suc n) h = first-numbers n (buffer-stands n h .place)
+
+  pub whole-place : (formEnd bs f ≡ 0 → ⊥) → placeOf bs f (f .buffers) ≡ 0 → ⊥
+  whole-place = form-cases bs f (λ x. (x ≡ 0 → ⊥) → placeOf bs f (f .buffers) ≡ 0 → ⊥) (λ h. h) (λ h. absurd (h refl))
+
+pub stands-at : (bs : List ℕ) (tag i : ℕ) → Whole bs tag → i < formOf tag .buffers → Stands bs (place bs tag i) (width tag i)
+stands-at bs tag i h l = buffers-stand bs (formOf tag) (formOf tag .buffers) i l (whole-place bs (formOf tag) h)
+
+pub number-stands : (bs : List ℕ) (tag i : ℕ) → Whole bs tag → i < formOf tag .numbers → 1 + 8 * (i + 1) ≤ length bs
+number-stands bs tag i h l = omega (arith, first-numbers bs (formOf tag) (formOf tag .buffers) (whole-place bs (formOf tag) h))
+
 -- ---- elements
 
 pub length-elements : (bs : List ℕ) (p w : ℕ) → length (elements bs p w) ≡ many bs p
@@ -125,7 +231,7 @@ bytes-elements bs p n h e =
     getD-take m (drop (p + 2) bs) i 0 (omega arith) ∙ getD-drop (p + 2) bs i 0 ∙ ap (λ q. getD bs q 0) same ∙ byte-number bs (p + 2 + 1 * i) (omega (arith, h .whole)))
 
 -- what copying them leaves
-pub loaded-bytes : {bs : List ℕ} {p : ℕ} (r : ℕ) (src out after : List ℕ) → Stands bs p 1 → 512 ≤ length out → src ≡ elements bs p 1 → r ≡ length src
+pub loaded-bytes : {bs : List ℕ} {p : ℕ} (r : ℕ) (src out after : List ℕ) → Stands bs p 1 → 1024 ≤ length out → src ≡ elements bs p 1 → r ≡ length src
     → after ≡ take (length src) src ++ drop (length src) out → length after ≡ length out → Loaded bs p 1 after r
 loaded-bytes {bs} {p} r src out after h l e k f j =
     let m : r ≡ many bs p = k ∙ ap length e ∙ length-elements bs p 1 in
@@ -136,9 +242,30 @@ loaded-bytes {bs} {p} r src out after h l e k f j =
       holds = ap₂ take k f ∙ take-at (take (length src) src) (drop (length src) out) (length src) (length-take-le (length src) src (omega arith)) ∙ take-length src ∙ e;
     }
 
+pub loaded-at : {bs after : List ℕ} {p q w r : ℕ} → p ≡ q → Loaded bs p w after r → Loaded bs q w after r
+loaded-at {bs} {after} {w = w} {r} e h = subst (λ x. Loaded bs x w after r) e h
+
 -- what was loaded has few elements
-pub loaded-few : {bs : List ℕ} {p w r : ℕ} {after : List ℕ} → Stands bs p w → Loaded bs p w after r → length (take r after) ≤ 512
+pub loaded-few : {bs : List ℕ} {p w r : ℕ} {after : List ℕ} → Stands bs p w → Loaded bs p w after r → length (take r after) ≤ 1024
 loaded-few h l = omega (arith, h .few, l .count, l .fits .1)
+
+-- its elements were lent and changed, and stand at the front as they are now
+pub record Again (r : ℕ) (new after : List ℕ) : Type 0 where
+  pub fits : r ≤ length (new ++ drop r after)
+  pub count : r ≡ length (take r (new ++ drop r after))
+  pub few : length (take r (new ++ drop r after)) ≤ 1024
+  pub same : take r (new ++ drop r after) ≡ new
+
+pub again : {bs : List ℕ} {p w r : ℕ} {after : List ℕ} (new : List ℕ) → Stands bs p w → Loaded bs p w after r → length new ≡ length (take r after) → Again r new after
+again {bs} {p} {w} {r} {after} new h l e =
+    let k : length new ≡ r = e ∙ sym (l .fits .1) in
+    let same : take r (new ++ drop r after) ≡ new = take-at new (drop r after) r k in
+    record {
+      fits = rw length-append (omega arith);
+      count = sym (ap length same ∙ k);
+      few = omega (arith, ap length same, h .few, l .count);
+      same = same;
+    }
 
 -- the words before the i-th
 abbrev pub wordsTo : List ℕ → ℕ → ℕ → List ℕ
