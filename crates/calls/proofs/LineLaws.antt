@@ -1,51 +1,91 @@
--- Laws of a call's line: bytes that follow the call change nothing of it, and no second text is it. Assumes nothing.
+-- Laws of a call's line: bytes that follow the call change nothing of it, it has at most 32,928 bytes, and no second text is it. Assumes nothing.
 use mathlib.Core.Path.{_≡_, refl, sym, ap, subst, transport, _∙_}
 use mathlib.Core.List.{List, [], _∷_, _++_}
 use Prim.Native.Nat.{ℕ, suc, _+_, _*_, _≤_, _<_}
 use native.Mathlib.Nat.{mul-suc, mul-le-mul-left}
 use native.Mathlib.Omega.{arith}
-use lib.ListN.{length, getD, List·getD-append}
+use native.Mathlib.Decide.{decLt}
+use lib.Dec.{lit≤}
+use lib.ListN.{length, getD, length-append, List·getD-eq-default}
 use Rattle.bits.specs.Bits.{list}
-use Rattle.bits.proofs.BoundLaws.{list-ext}
+use Rattle.bits.proofs.BoundLaws.{list-ext, getD-list, length-list}
 use Rattle.pointer_promises.proofs.Unique as pointer
 use Rattle.grid_promises.proofs.OneAnswer as grid
-use Rattle.calls.specs.Format.{numberAt, callNumber, many, Stands, elements, formOf, width, place, numbersOf, buffersOf, callEnd, Whole}
-use Rattle.calls.specs.Text.{decimal, bufferText, line}
+use Rattle.wire.specs.Numbers.{numberAt}
+use Rattle.wire.specs.Text.{decimal, bufferText}
+use Rattle.wire.proofs.NumberLaws.{number-before}
+use Rattle.wire.proofs.TextLaws.{length-decimals, length-buffer}
+use Rattle.calls.specs.Format.{callNumber, many, Stands, elements, formOf, width, place, numbersOf, buffersOf, callEnd, Whole}
+use Rattle.calls.specs.Text.{line}
 use Rattle.calls.specs.Calls.{LineBy, LineAt, LineOf, pointerWrite, pointerRead, gridWrite, gridRead, OneLine}
 use Rattle.calls.proofs.FormatLaws.{stands-at, number-stands}
-use Rattle.calls.proofs.StreamLaws.{number-more, whole-more, tag-more}
+use Rattle.calls.proofs.StreamLaws.{place-more, tag-more}
+use Rattle.calls.proofs.ElementLaws.{length-elements}
 
 -- ---- bytes that follow
 
 module _ (bs rest : List ℕ) where
-  argument-more : (i : ℕ) → 1 + 8 * (i + 1) ≤ length bs → callNumber bs i ≡ callNumber (bs ++ rest) i
-  argument-more i h = sym (number-more bs rest (1 + 8 * i) 8 (omega arith))
-
   elements-more : (p w : ℕ) → Stands bs p w → elements bs p w ≡ elements (bs ++ rest) p w
   unfolding elements
   elements-more p w h =
-      let e : many (bs ++ rest) p ≡ many bs p = number-more bs rest p 2 (omega (arith, h .whole)) in
+      let e : many (bs ++ rest) p ≡ many bs p = number-before bs rest p 2 (omega (arith, h .whole)) in
       ap (λ n. list n (λ i. numberAt bs (p + 2 + w * i) w)) (sym e)
       ∙ list-ext (many (bs ++ rest) p) (λ i. numberAt bs (p + 2 + w * i) w) (λ i. numberAt (bs ++ rest) (p + 2 + w * i) w)
       (λ i l.
       let k : w * suc i ≤ w * many bs p = mul-le-mul-left w (omega arith) in
-      sym (number-more bs rest (p + 2 + w * i) w (omega (arith, mul-suc w i, h .whole))))
+      sym (number-before bs rest (p + 2 + w * i) w (omega (arith, mul-suc w i, h .whole))))
 
   module _ (tag : ℕ) (h : Whole bs tag) where
     numbers-of-more : numbersOf bs tag ≡ numbersOf (bs ++ rest) tag
-    numbers-of-more = list-ext (formOf tag .numbers) (callNumber bs) (callNumber (bs ++ rest)) (λ i l. argument-more i (number-stands bs tag i h l))
+    numbers-of-more = list-ext (formOf tag .numbers) (callNumber bs) (callNumber (bs ++ rest)) (λ i l. sym (number-before bs rest (1 + 8 * i) 8 (number-stands bs tag i h l)))
 
     buffers-of-more : buffersOf bs tag ≡ buffersOf (bs ++ rest) tag
     buffers-of-more =
         list-ext (formOf tag .buffers) (λ i. elements bs (place bs tag i) (width tag i)) (λ i. elements (bs ++ rest) (place (bs ++ rest) tag i) (width tag i))
         (λ i l.
         let s = stands-at bs tag i h l in
-        elements-more (place bs tag i) (width tag i) s ∙ ap (λ p. elements (bs ++ rest) p (width tag i)) (sym (whole-more bs rest (formOf tag) i (s .place))))
+        elements-more (place bs tag i) (width tag i) s ∙ ap (λ p. elements (bs ++ rest) p (width tag i)) (sym (place-more bs rest (formOf tag) i (s .place))))
 
   pub line-more : (text : List ℕ) → 0 < length bs → (callEnd bs ≡ 0 → ⊥) → LineOf bs text → LineOf (bs ++ rest) text
   line-more text k h l =
       let tag : ℕ = getD bs 0 0 in
       subst (λ t. LineAt (bs ++ rest) t text) (sym (tag-more bs rest k)) (transport (λ i. LineBy tag (numbers-of-more tag h i) (buffers-of-more tag h i) text) l)
+
+-- ---- how long a line is
+
+-- at most so many numbers and so many buffers of at most 1,025 elements
+data Sized : ℕ → ℕ → List (List ℕ) → Type 0 where
+  none : Sized 0 0 []
+  count : {m n : ℕ} {ws : List (List ℕ)} (x : ℕ) → Sized m n ws → Sized (suc m) n (decimal x ∷ ws)
+  bytes : {m n : ℕ} {ws : List (List ℕ)} (s : List ℕ) → length s ≤ 1025 → Sized m n ws → Sized m (suc n) (bufferText 2 s ∷ ws)
+  words : {m n : ℕ} {ws : List (List ℕ)} (s : List ℕ) → length s ≤ 1025 → Sized m n ws → Sized m (suc n) (bufferText 16 s ∷ ws)
+
+sized : {m n : ℕ} {ws : List (List ℕ)} (k : ℕ) (w : List ℕ) → length w ≤ k → Sized m n ws → length (line w ws) ≤ k + 1 + 21 * m + 16401 * n
+unfolding line
+sized k w l none = rw length-append (omega arith)
+sized k w l (count x r) = rw length-append (omega (arith, sized 20 (decimal x) (length-decimals 20 x) r))
+sized k w l (bytes s f r) = rw length-append (omega (arith, sized 2050 (bufferText 2 s) (length-buffer 2 1025 s (omega arith) f) r))
+sized k w l (words s f r) = rw length-append (omega (arith, sized 16400 (bufferText 16 s) (length-buffer 16 1025 s (omega arith) f) r))
+
+short : {m n : ℕ} {ws : List (List ℕ)} (x : ℕ) → Sized m n ws → m ≤ 5 → n ≤ 2 → length (line (decimal x) ws) ≤ 32928
+short x r h k = omega (arith, sized 20 (decimal x) (length-decimals 20 x) r)
+
+few-short : {ns : List ℕ} {bss : List (List ℕ)} {text : List ℕ} (tag : ℕ) → ((i : ℕ) → length (getD bss i []) ≤ 1024) → LineBy tag ns bss text → length text ≤ 32928
+few-short tag f (pointerWrite _ c m) = short _ (count _ (count _ (bytes _ (omega (arith, f 3)) (bytes _ (omega (arith, f 4)) none)))) (lit≤ tt) (lit≤ tt)
+few-short tag f (pointerRead _ o) = short _ (bytes _ (omega (arith, f 2)) none) (lit≤ tt) (lit≤ tt)
+few-short tag f (gridWrite _ c m) = short _ (count _ (count _ (words _ (omega (arith, f 3)) (bytes _ (omega (arith, f 4)) none)))) (lit≤ tt) (lit≤ tt)
+few-short tag f (gridRead _ o) = short _ (words _ (omega (arith, f 2)) none) (lit≤ tt) (lit≤ tt)
+
+few : (bs : List ℕ) (tag : ℕ) → Whole bs tag → (i : ℕ) → length (getD (buffersOf bs tag) i []) ≤ 1024
+few bs tag h i =
+    let element : ℕ → List ℕ = λ j. elements bs (place bs tag j) (width tag j) in
+    elim (decLt i (formOf tag .buffers)) [
+      | yes l ↦ rw (getD-list (formOf tag .buffers) element [] i l, length-elements) (stands-at bs tag i h l .few)
+      | no l ↦ rw (List·getD-eq-default (buffersOf bs tag) [] {n = i} (rw length-list (omega arith))) (omega arith)
+    ]
+
+pub line-short : (bs text : List ℕ) → (callEnd bs ≡ 0 → ⊥) → LineOf bs text → length text ≤ 32928
+line-short bs text h l = few-short (getD bs 0 0) (few bs (getD bs 0 0) h) l
 
 -- ---- no second line
 

@@ -2,14 +2,15 @@
 -- stand in the bytes in the order of the table in docs/CALLS.md, and what the text shows is what the entry point promises of them. Assumes nothing.
 use mathlib.Core.Path.{_≡_}
 use mathlib.Core.List.{List, [], _∷_}
-use Prim.Native.Nat.{ℕ, _+_, _≤_}
+use Prim.Native.Nat.{ℕ}
 use lib.ListN.{length, getD, take}
 use Rattle.io.specs.Counts.{Counts}
 use Rattle.pointer_promises.specs.Promises as pointer
 use Rattle.grid_promises.specs.Promises as grid
 use Rattle.grid_promises.specs.Calls.{block}
 use Rattle.calls.specs.Format.{many, elements, numbersOf, buffersOf, callEnd}
-use Rattle.calls.specs.Text.{decimal, bufferText, line, Put}
+use Rattle.wire.specs.Text.{decimal, bufferText, Put}
+use Rattle.calls.specs.Text.{line}
 
 -- a buffer was loaded: it has r elements, and they stand at the front
 pub record Loaded (bs : List ℕ) (p w : ℕ) (after : List ℕ) (r : ℕ) : Type 0 where
@@ -60,7 +61,6 @@ OneLine = (bs text text′ : List ℕ) → LineOf bs text → LineOf bs text′ 
 pub record PutLine (Line : List ℕ → Type 0) (before : List ℕ) (p : ℕ) (after : List ℕ) (q : ℕ) : Type 0 where
   pub text : List ℕ
   pub line : Line text
-  pub short : q ≤ p + 32896
   pub put : Put text before p after q
 
 -- the call at the front of the bytes, or what is none: it takes so many bytes and puts its line, or takes none and puts nothing

@@ -1,17 +1,15 @@
 -- What stands in the input: numbers, buffers and calls, by the bytes from a call's first on. Places count bytes from 0; the place 0, where no number and no
 -- buffer can start or end, stands for what is no call. Assumes nothing.
 use mathlib.Core.Path.{_≡_}
-use mathlib.Core.Bool.{Bool, cond, not, _&&_}
+use mathlib.Core.Bool.{Bool, true, cond, not, _&&_, _||_}
 use mathlib.Core.List.{List, [], _∷_}
 use Prim.Native.Nat.{ℕ, zero, suc, _+_, _*_, _≤_}
-use lib.Dec.{eqb, leb}
-use lib.ListN.{length, take, drop, getD}
-use Rattle.bits.specs.Bits.{number, list}
+use lib.Dec.{eqb, leb, ltb}
+use lib.ListN.{length, getD}
+use Rattle.bits.specs.Bits.{some, list}
+use Rattle.wire.specs.Numbers.{numberAt}
 use Rattle.calls.specs.declared.input.Form.{Form}
-
--- the number of the n bytes from place p on, the lowest first
-unfoldable pub numberAt : List ℕ → ℕ → ℕ → ℕ
-numberAt bs p n = number 256 (take n (drop p bs))
+use Rattle.calls.specs.declared.input.Reach.{Reach}
 
 -- number i of a call, from 0 on: they follow the tag, eight bytes each
 abbrev pub callNumber : List ℕ → ℕ → ℕ
@@ -27,7 +25,7 @@ many bs p = numberAt bs p 2
 
 -- a buffer with elements of w bytes stands at place p whole, and has at most 1024 of them
 unfoldable pub isBuffer : List ℕ → ℕ → ℕ → Bool
-isBuffer bs p w = not (eqb p 0) && leb (p + 2) (length bs) && leb (many bs p) 1024 && leb (p + 2 + w * many bs p) (length bs)
+isBuffer bs p w = not (eqb p 0) && leb (many bs p) 1024 && leb (p + 2 + w * many bs p) (length bs)
 
 -- where it ends
 unfoldable pub afterBuffer : List ℕ → ℕ → ℕ → ℕ
@@ -38,6 +36,10 @@ pub record Stands (bs : List ℕ) (p w : ℕ) : Type 0 where
   pub place : p ≡ 0 → ⊥
   pub few : many bs p ≤ 1024
   pub whole : p + 2 + w * many bs p ≤ length bs
+
+-- it says how many elements it has, and they are too many: whatever follows, it is no buffer
+unfoldable pub isOver : List ℕ → ℕ → Bool
+isOver bs p = not (eqb p 0) && leb (p + 2) (length bs) && ltb 1024 (many bs p)
 
 -- its elements
 unfoldable pub elements : List ℕ → ℕ → ℕ → List ℕ
@@ -81,6 +83,15 @@ place bs tag i = placeOf bs (formOf tag) i
 unfoldable pub formEnd : List ℕ → Form → ℕ
 formEnd bs f = cond (eqb (f .buffers) 0) 0 (placeOf bs f (f .buffers))
 
+-- no call of this form can stand there, whatever follows: it is the form of no call, or a buffer has too many elements
+unfoldable pub isBad : List ℕ → Form → Bool
+isBad bs f = eqb (f .buffers) 0 || some (f .buffers) (λ i. isOver bs (placeOf bs f i))
+
+-- a place was found, and whether a buffer before it has too many elements
+pub record Found (bs : List ℕ) (f : Form) (i : ℕ) (r : Reach) : Type 0 where
+  pub at : r .at ≡ placeOf bs f i
+  pub over : r .over ≡ some i (λ j. isOver bs (placeOf bs f j))
+
 -- a call with this tag stands there whole
 abbrev pub Whole : List ℕ → ℕ → Type 0
 Whole bs tag = formEnd bs (formOf tag) ≡ 0 → ⊥
@@ -95,3 +106,8 @@ buffersOf bs tag = list (formOf tag .buffers) (λ i. elements bs (place bs tag i
 -- where the call ends that stands at the front of the bytes
 abbrev pub callEnd : List ℕ → ℕ
 callEnd bs = formEnd bs (formOf (getD bs 0 0))
+
+-- the call at the front of the bytes is cut short: it does not stand there whole, but may with bytes that follow
+unfoldable pub isCutShort : List ℕ → Bool
+isCutShort [] = true
+isCutShort (tag ∷ bs) = eqb (callEnd (tag ∷ bs)) 0 && not (isBad (tag ∷ bs) (formOf tag))

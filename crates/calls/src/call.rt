@@ -1,12 +1,13 @@
 // The calls: each takes its numbers and buffers, makes the call and puts its line.
 ghost use mathlib.Core.Path.{_≡_};
-ghost use Prim.Native.Nat.{_+_, _≤_, _<_};
+ghost use Prim.Native.Nat.{_<_};
 ghost use lib.ListN.{length};
-ghost use Rattle.calls.specs.Format.{Whole, callEnd};
+ghost use Rattle.calls.specs.Format.{Whole, isCutShort};
 ghost use Rattle.calls.specs.Calls.{LineAt, PutLine, Printed};
 use crate::input::call_end;
 use crate::input::call_number;
 use crate::input::elements;
+use crate::input::is_bad;
 use crate::input::load_bytes;
 use crate::input::load_words;
 use crate::print::put_bytes;
@@ -23,7 +24,6 @@ pub struct Made {
 
 fn pointer_write(s: &[u8], out: &mut [u8], put: usize) -> usize
     requires { ⌜ Whole (now s) 1 ⌝ }
-    requires { ⌜ put + 32896 ≤ length (now out) ⌝ }
     ensures { λ r. ⌜ PutLine (LineAt (now (s .entry)) 1) (now (out .entry)) put (now (out .exit)) r ⌝ }
 {
     let mut cells = [0u8; 1024];
@@ -48,7 +48,6 @@ fn pointer_write(s: &[u8], out: &mut [u8], put: usize) -> usize
 
 fn pointer_read(s: &[u8], out: &mut [u8], put: usize) -> usize
     requires { ⌜ Whole (now s) 2 ⌝ }
-    requires { ⌜ put + 32896 ≤ length (now out) ⌝ }
     ensures { λ r. ⌜ PutLine (LineAt (now (s .entry)) 2) (now (out .entry)) put (now (out .exit)) r ⌝ }
 {
     let mut shown = [0u8; 1024];
@@ -66,7 +65,6 @@ fn pointer_read(s: &[u8], out: &mut [u8], put: usize) -> usize
 
 fn grid_write(s: &[u8], out: &mut [u8], put: usize) -> usize
     requires { ⌜ Whole (now s) 3 ⌝ }
-    requires { ⌜ put + 32896 ≤ length (now out) ⌝ }
     ensures { λ r. ⌜ PutLine (LineAt (now (s .entry)) 3) (now (out .entry)) put (now (out .exit)) r ⌝ }
 {
     let mut wanted = [0u64; 1024];
@@ -99,7 +97,6 @@ fn grid_write(s: &[u8], out: &mut [u8], put: usize) -> usize
 
 fn grid_read(s: &[u8], out: &mut [u8], put: usize) -> usize
     requires { ⌜ Whole (now s) 4 ⌝ }
-    requires { ⌜ put + 32896 ≤ length (now out) ⌝ }
     ensures { λ r. ⌜ PutLine (LineAt (now (s .entry)) 4) (now (out .entry)) put (now (out .exit)) r ⌝ }
 {
     let mut cells = [0u64; 1024];
@@ -122,7 +119,6 @@ fn grid_read(s: &[u8], out: &mut [u8], put: usize) -> usize
 // Makes a call with this tag, and puts its line.
 fn answer(s: &[u8], tag: u8, out: &mut [u8], put: usize) -> usize
     requires { ⌜ Whole (now s) tag ⌝ }
-    requires { ⌜ put + 32896 ≤ length (now out) ⌝ }
     ensures { λ r. ⌜ PutLine (LineAt (now (s .entry)) tag) (now (out .entry)) put (now (out .exit)) r ⌝ }
 {
     match tag {
@@ -134,18 +130,20 @@ fn answer(s: &[u8], tag: u8, out: &mut [u8], put: usize) -> usize
     }
 }
 
-// Where the call at the front of the bytes ends, 0 where none stands there whole.
-pub fn front_end(s: &[u8]) -> usize
-    requires { ⌜ 0 < length (now s) ⌝ }
-    ensures { λ r. ⌜ r ≡ callEnd (now (s .entry)) ⌝ }
+// Whether the call at the front of the bytes is cut short: it is not there whole, but might be with bytes that follow.
+pub fn is_cut_short(s: &[u8]) -> bool
+    ensures { λ r. ⌜ r ≡ isCutShort (now (s .entry)) ⌝ }
 {
-    call_end(s, s[0])
+    if s.len() == 0 {
+        return true;
+    }
+    let tag = s[0];
+    (call_end(s, tag) == 0) & !is_bad(s, tag)
 }
 
 // Makes the call at the front of the bytes and puts its line, or finds none.
 pub fn call(s: &[u8], out: &mut [u8], put: usize) -> Made
     requires { ⌜ 0 < length (now s) ⌝ }
-    requires { ⌜ put + 32896 ≤ length (now out) ⌝ }
     ensures { λ r. ⌜ Printed (now (s .entry)) (r .taken) (now (out .entry)) put (now (out .exit)) (r .put) ⌝ }
 {
     let tag = s[0];

@@ -1,43 +1,15 @@
 // Numbers and buffers as they stand in the input.
 ghost use mathlib.Core.Path.{_≡_};
 ghost use Prim.Native.Nat.{_+_, _*_, _≤_};
+ghost use lib.Dec.{leb};
 ghost use lib.ListN.{length};
-ghost use Rattle.bits.specs.Bits.{number};
-ghost use Rattle.calls.specs.Format.{numberAt, callNumber, Stands, elements, afterNumbers, afterBuffer, form, formOf, place, formEnd};
+ghost use Rattle.calls.specs.Format.{callNumber, Stands, elements, afterNumbers, afterBuffer, isOver, form, formOf, place, formEnd, isBad, Found};
 ghost use Rattle.calls.specs.Calls.{Loaded};
-
-// A byte as a wider number.
-fn wide(b: u8) -> u64
-    ensures { λ r. ⌜ r ≡ b ⌝ }
-{
-    b as u64
-}
-
-// The number that at most eight bytes make, the lowest first.
-fn number_of(s: &[u8]) -> u64
-    requires { ⌜ length (now s) ≤ 8 ⌝ }
-    ensures { λ r. ⌜ r ≡ number 256 (now (s .entry)) ⌝ }
-{
-    let mut i = s.len();
-    let mut x = 0;
-    while i > 0 {
-        i -= 1;
-        x = x * 256 + wide(s[i]);
-    }
-    x
-}
-
-// The number in n bytes from a place on.
-pub fn number_at(s: &[u8], at: usize, n: usize) -> u64
-    requires { ⌜ (n ≤ 8) × (at + n ≤ length (now s)) ⌝ }
-    ensures { λ r. ⌜ r ≡ numberAt (now (s .entry)) at n ⌝ }
-{
-    number_of(&s[at..at + n])
-}
+use wire::input::number_at;
 
 // A call's number i, from 0 on.
 pub fn call_number(s: &[u8], i: usize) -> usize
-    requires { ⌜ (i ≤ 3) × (1 + 8 * (i + 1) ≤ length (now s)) ⌝ }
+    requires { ⌜ i ≤ 3 ⌝ }
     ensures { λ r. ⌜ r ≡ callNumber (now (s .entry)) i ⌝ }
 {
     number_at(s, 1 + 8 * i, 8) as usize
@@ -52,29 +24,40 @@ fn after_numbers(s: &[u8], n: usize) -> usize
     if end <= s.len() { end } else { 0 }
 }
 
+// Whether there are n bytes from a place on.
+fn reaches(len: usize, at: usize, n: usize) -> bool
+    ensures { λ r. ⌜ r ≡ leb (at + n) len ⌝ }
+{
+    if len < at {
+        return false;
+    }
+    n <= len - at
+}
+
 // Where the buffer that starts at `at` ends, its elements width bytes each; 0 where at is 0, where it has more than 1024 elements or where it is cut short.
 fn after_buffer(s: &[u8], at: usize, width: usize) -> usize
     requires { ⌜ width ≤ 8 ⌝ }
     ensures { λ r. ⌜ r ≡ afterBuffer (now (s .entry)) at width ⌝ }
 {
+    let n = number_at(s, at, 2) as usize;
     if at == 0 {
         return 0;
     }
-    if s.len() < 2 {
-        return 0;
-    }
-    if s.len() - 2 < at {
-        return 0;
-    }
-    let first = at + 2;
-    let n = number_at(s, at, 2) as usize;
     if 1024 < n {
         return 0;
     }
-    if s.len() - first < width * n {
+    let size = 2 + width * n;
+    if !reaches(s.len(), at, size) {
         return 0;
     }
-    first + width * n
+    at + size
+}
+
+// Whether the buffer that starts at `at` says how many elements it has, and that is more than 1024.
+fn is_over(s: &[u8], at: usize) -> bool
+    ensures { λ r. ⌜ r ≡ isOver (now (s .entry)) at ⌝ }
+{
+    (at != 0) & reaches(s.len(), at, 2) & (1024 < number_at(s, at, 2))
 }
 
 // A call's form: how many numbers it has, how many buffers, and how many bytes an element of each has, 0 where there is none.
@@ -107,19 +90,35 @@ fn form_of(tag: u8) -> Form
     }
 }
 
-// Where buffer i of a call with this tag starts, or the call ends where i is their number; 0 where the call is cut short before.
+// A place, and whether a buffer before it has too many elements.
+pub struct Reach {
+    pub at: usize,
+    pub over: bool,
+}
+
+// Where buffer i of a call with this tag starts, or the call ends where i is their number; 0 where it does not stand there whole up to there.
+fn find(s: &[u8], tag: u8, i: usize) -> Reach
+    requires { ⌜ i ≤ 5 ⌝ }
+    ensures { λ r. ⌜ Found (now (s .entry)) (formOf tag) i r ⌝ }
+{
+    let f = form_of(tag);
+    let mut at = after_numbers(s, f.numbers);
+    let mut over = false;
+    let mut j = 0;
+    while j < i {
+        over = is_over(s, at) | over;
+        at = after_buffer(s, at, f.widths[j]);
+        j += 1;
+    }
+    Reach { at, over }
+}
+
 fn place(s: &[u8], tag: u8, i: usize) -> usize
     requires { ⌜ i ≤ 5 ⌝ }
     ensures { λ r. ⌜ r ≡ place (now (s .entry)) tag i ⌝ }
 {
-    let f = form_of(tag);
-    let mut at = after_numbers(s, f.numbers);
-    let mut j = 0;
-    while j < i {
-        at = after_buffer(s, at, f.widths[j]);
-        j += 1;
-    }
-    at
+    let found = find(s, tag, i);
+    found.at
 }
 
 // Where a call with this tag ends, 0 where none stands there.
@@ -131,6 +130,15 @@ pub fn call_end(s: &[u8], tag: u8) -> usize
         return 0;
     }
     place(s, tag, f.buffers)
+}
+
+// Whether no call with this tag can stand there, whatever follows.
+pub fn is_bad(s: &[u8], tag: u8) -> bool
+    ensures { λ r. ⌜ r ≡ isBad (now (s .entry)) (formOf tag) ⌝ }
+{
+    let f = form_of(tag);
+    let found = find(s, tag, f.buffers);
+    (f.buffers == 0) | found.over
 }
 
 // The elements of the buffer of bytes that starts at `at`.

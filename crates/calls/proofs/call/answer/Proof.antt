@@ -8,13 +8,13 @@ answer-spec =
     tie.close
     (tie.spec
     -- pointer-write-requires
-    (λ c κs. (whole-by _ (c .before .match .keys1) (c .before .before .before .before .pre .0), c .before .before .before .before .pre .1))
+    (λ c κs. whole-by _ (c .before .match .keys1) (c .before .before .before .before .pre))
     -- pointer-read-requires
-    (λ c κs. (whole-by _ (c .before .match .keys2) (c .before .before .before .before .pre .0), c .before .before .before .before .pre .1))
+    (λ c κs. whole-by _ (c .before .match .keys2) (c .before .before .before .before .pre))
     -- grid-write-requires
-    (λ c κs. (whole-by _ (c .before .match .keys3) (c .before .before .before .before .pre .0), c .before .before .before .before .pre .1))
+    (λ c κs. whole-by _ (c .before .match .keys3) (c .before .before .before .before .pre))
     -- grid-read-requires
-    (λ c κs. (whole-by _ (c .before .match .keys4) (c .before .before .before .before .pre .0), c .before .before .before .before .pre .1))
+    (λ c κs. whole-by _ (c .before .match .keys4) (c .before .before .before .before .pre))
     -- same-length
     (λ c. c .before .before .pointer-write .kept .1 .0)
     -- returns
@@ -32,4 +32,4 @@ answer-spec =
     -- returns-4
     (λ c. line-by _ (c .before .before .before .before .match .keys4) (c .before .before .grid-read .ensures))
     -- returns-5
-    (λ c. let t = c .match .rest in absurd (not-whole _ _ (no-form _ (t .0 .0 .0 .1) (t .0 .0 .1) (t .0 .1) (t .1)) (c .before .before .before .pre .0))))
+    (λ c. let t = c .match .rest in absurd (not-whole _ _ (no-form _ (t .0 .0 .0 .1) (t .0 .0 .1) (t .0 .1) (t .1)) (c .before .before .before .pre))))

@@ -1,0 +1,19 @@
+-- Laws of a buffer whose first elements were lent. Assumes nothing.
+use mathlib.Core.Path.{_≡_, sym, ap, _∙_}
+use mathlib.Core.List.{List, _++_}
+use Prim.Native.Nat.{ℕ, _≤_}
+use native.Mathlib.Omega.{arith}
+use lib.ListN.{length, take, drop, length-append}
+use lib.Seq.{length-take-le, take-at}
+
+-- the first r elements of a buffer were lent and are new: they stand at the front as they are now
+pub record Again (r : ℕ) (new old : List ℕ) : Type 0 where
+  pub fits : r ≤ length (new ++ drop r old)
+  pub count : r ≡ length (take r (new ++ drop r old))
+  pub same : take r (new ++ drop r old) ≡ new
+
+pub again : {r : ℕ} (new old : List ℕ) → r ≤ length old → length new ≡ length (take r old) → Again r new old
+again {r} new old l e =
+    let k : length new ≡ r = e ∙ length-take-le r old l in
+    let same : take r (new ++ drop r old) ≡ new = take-at new (drop r old) r k in
+    record { fits = rw length-append (omega arith); count = sym (ap length same ∙ k); same = same }
