@@ -12,15 +12,16 @@ use Rattle.bits.proofs.BoundLaws.{list-ext, getD-list, length-list}
 use Rattle.pointer_promises.proofs.Unique as pointer
 use Rattle.grid_promises.proofs.OneAnswer as grid
 use Rattle.wire.specs.Numbers.{numberAt}
-use Rattle.wire.specs.Text.{decimal, bufferText}
+use Rattle.wire.specs.Text.{decimal}
 use Rattle.wire.proofs.NumberLaws.{number-before}
-use Rattle.wire.proofs.TextLaws.{length-decimals, length-buffer}
+use Rattle.wire.proofs.TextLaws.{length-decimals}
 use Rattle.calls.specs.Format.{callNumber, many, Stands, elements, formOf, width, place, numbersOf, buffersOf, callEnd, Whole}
-use Rattle.calls.specs.Text.{line}
+use Rattle.calls.specs.Text.{bufferText, line}
 use Rattle.calls.specs.Calls.{LineBy, LineAt, LineOf, pointerWrite, pointerRead, gridWrite, gridRead, OneLine}
 use Rattle.calls.proofs.FormatLaws.{stands-at, number-stands}
 use Rattle.calls.proofs.StreamLaws.{place-more, tag-more}
 use Rattle.calls.proofs.ElementLaws.{length-elements}
+use Rattle.calls.proofs.TextLaws.{length-buffer}
 
 -- ---- bytes that follow
 

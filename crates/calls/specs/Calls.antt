@@ -9,8 +9,8 @@ use Rattle.pointer_promises.specs.Promises as pointer
 use Rattle.grid_promises.specs.Promises as grid
 use Rattle.grid_promises.specs.Calls.{block}
 use Rattle.calls.specs.Format.{many, elements, numbersOf, buffersOf, callEnd}
-use Rattle.wire.specs.Text.{decimal, bufferText, Put}
-use Rattle.calls.specs.Text.{line}
+use Rattle.wire.specs.Text.{decimal, Put}
+use Rattle.calls.specs.Text.{bufferText, line}
 
 -- a buffer was loaded: it has r elements, and they stand at the front
 pub record Loaded (bs : List ℕ) (p w : ℕ) (after : List ℕ) (r : ℕ) : Type 0 where

@@ -3,7 +3,7 @@ use mathlib.Core.Path.{_≡_, refl, sym, ap, ap₂, subst, _∙_}
 use mathlib.Core.Bool.{Bool, true, false, cond}
 use mathlib.Core.List.{List, [], _∷_, _++_, append-assoc, append-nil}
 use Prim.Native.Nat.{ℕ, zero, suc, _+_, _-_, _*_, _/_, _%_, _^_, _≤_, _<_, min}
-use native.Mathlib.Nat.{pow-suc, mul-suc, mul-le-mul-left}
+use native.Mathlib.Nat.{pow-suc}
 use native.Mathlib.Numerals.{add-one}
 use native.Mathlib.Omega.{arith}
 use native.Mathlib.Decide.{decLt}
@@ -13,7 +13,7 @@ use lib.Seq.{take-all, take-suc, drop-length, drop-drop, set-split, drop-at, len
 use borrow.Author.Tests.{lt-ltb, le-ltb}
 use Rattle.io.specs.Digits.{glyph, digits}
 use Rattle.wire.proofs.LentLaws.{again}
-use Rattle.wire.specs.Text.{hexOf, decimals, decimal, each, dash, bufferText, fitting, Put}
+use Rattle.wire.specs.Text.{hexOf, decimals, decimal, fitting, Put}
 
 -- ---- text put into a buffer
 
@@ -110,54 +110,12 @@ pub all-fits : (text buffer : List ℕ) (p : ℕ) → p + length text ≤ length
 unfolding fitting
 all-fits text buffer p h = take-all (length buffer - p) text (omega arith)
 
--- ---- elements one after another
+-- a loop that puts byte after byte: one more, and all of them
+pub put-more : {a b c : List ℕ} {p q r : ℕ} (i : ℕ) (text : List ℕ) → i < length text → Put (take i text) a p b q → Put (getD text i 0 ∷ []) b q c r → Put (take (i + 1) text) a p c r
+put-more i text l h k = put-same (sym (rw (add-one, take-suc text i 0 l))) (put-both h k)
 
-each-both : (f : ℕ → List ℕ) (xs ys : List ℕ) → each f (xs ++ ys) ≡ each f xs ++ each f ys
-unfolding each
-each-both f [] ys = refl
-each-both f (x ∷ xs) ys = rw (each-both f xs ys, append-assoc)
-
-each-one : (f : ℕ → List ℕ) (x : ℕ) → each f (x ∷ []) ≡ f x
-unfolding each
-each-one f x = append-nil (f x)
-
--- a byte as it is
-abbrev pub plain : ℕ → List ℕ
-plain x = x ∷ []
-
-pub each-plain : (xs : List ℕ) → each plain xs ≡ xs
-unfolding each
-each-plain [] = refl
-each-plain (x ∷ xs) = ap (λ l. x ∷ l) (each-plain xs)
-
--- a loop that puts element after element: none yet, one more, and all of them
-pub put-start : {out : List ℕ} {p : ℕ} (f : ℕ → List ℕ) (s : List ℕ) → Put (each f (take 0 s)) out p out p
-unfolding each
-put-start f s = put-none
-
-pub put-more : {a b c : List ℕ} {p q r : ℕ} (f : ℕ → List ℕ) (i : ℕ) (s : List ℕ) → i < length s → Put (each f (take i s)) a p b q → Put (f (getD s i 0)) b q c r
-    → Put (each f (take (i + 1) s)) a p c r
-put-more f i s l h k = put-same (sym (rw (add-one, take-suc s i 0 l, each-both, each-one))) (put-both h k)
-
-pub put-all : {a b : List ℕ} {p q : ℕ} (f : ℕ → List ℕ) (i : ℕ) (s : List ℕ) → length s ≤ i → Put (each f (take i s)) a p b q → Put (each f s) a p b q
-put-all f i s l h = put-same (ap (each f) (take-all i s l)) h
-
--- ---- buffers
-
-pub put-dash : {a b : List ℕ} {p q : ℕ} (n : ℕ) → n ≡ 0 → Put (45 ∷ []) a p b q → Put (dash n) a p b q
-unfolding dash
-put-dash zero e h = h
-put-dash (suc n) e h = absurd (omega arith)
-
-pub no-dash : {out : List ℕ} {p : ℕ} (n : ℕ) → (n ≡ 0 → ⊥) → Put (dash n) out p out p
-unfolding dash
-no-dash zero e = absurd (e refl)
-no-dash (suc n) e = put-none
-
-pub put-buffer : {a b c : List ℕ} {p q r : ℕ} (n i : ℕ) (s : List ℕ) → length s ≤ i → Put (dash (length s)) a p b q → Put (each (hexOf n) (take i s)) b q c r
-    → Put (bufferText n s) a p c r
-unfolding bufferText
-put-buffer n i s l h k = put-both h (put-all (hexOf n) i s l k)
+pub put-all : {a b : List ℕ} {p q : ℕ} (i : ℕ) (text : List ℕ) → length text ≤ i → Put (take i text) a p b q → Put text a p b q
+put-all i text l h = put-same (take-all i text l) h
 
 -- ---- hexadecimal digits
 
@@ -231,17 +189,3 @@ length-decimals (suc f) x = go (ltb x 10) (length-decimals f (x / 10))
     go : (t : Bool) → length (decimals f (x / 10)) ≤ f → length (cond t (glyph x ∷ []) (decimals f (x / 10) ++ (glyph (x % 10) ∷ []))) ≤ suc f
     go true h = omega arith
     go false h = rw length-append (omega arith)
-
-length-hexes : (n : ℕ) (xs : List ℕ) → length (each (hexOf n) xs) ≡ n * length xs
-unfolding each
-length-hexes n [] = omega arith
-length-hexes n (x ∷ xs) = rw (length-append, length-hexOf, length-hexes n xs, mul-suc) (omega arith)
-
--- a buffer of at most m elements, n digits each, takes no more text
-pub length-buffer : (n m : ℕ) (s : List ℕ) → 0 < n * m → length s ≤ m → length (bufferText n s) ≤ n * m
-unfolding bufferText dash
-length-buffer n m s p l = rw (length-append, length-hexes) (go (length s) l)
-  where
-    go : (k : ℕ) → k ≤ m → length (dash k) + n * k ≤ n * m
-    go zero l = omega arith
-    go (suc k) l = omega (arith, mul-le-mul-left n l)

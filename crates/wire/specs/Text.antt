@@ -1,4 +1,4 @@
--- Text as ASCII codes: numbers and buffers, and how text is put into a buffer. Assumes nothing.
+-- Text as ASCII codes: numbers in decimal and in hexadecimal digits, and how text is put into a buffer. Assumes nothing.
 use mathlib.Core.Path.{_≡_}
 use mathlib.Core.Bool.{cond}
 use mathlib.Core.List.{List, [], _∷_, _++_}
@@ -19,20 +19,6 @@ decimals (suc f) x = cond (ltb x 10) (glyph x ∷ []) (decimals f (x / 10) ++ (g
 -- every number of 64 bits has at most 20 digits
 abbrev pub decimal : ℕ → List ℕ
 decimal = decimals 20
-
--- elements, each by its own text, with nothing between
-unfoldable pub each : (ℕ → List ℕ) → List ℕ → List ℕ
-each f [] = []
-each f (x ∷ xs) = f x ++ each f xs
-
--- the sign for a buffer of n elements: `-` where it has none
-unfoldable pub dash : ℕ → List ℕ
-dash zero = 45 ∷ []
-dash (suc n) = []
-
--- a buffer: its elements, n digits each, or `-` where it has none
-unfoldable pub bufferText : ℕ → List ℕ → List ℕ
-bufferText n xs = dash (length xs) ++ each (hexOf n) xs
 
 -- as much of a text as there is room for from place p of a buffer on
 unfoldable pub fitting : List ℕ → List ℕ → ℕ → List ℕ

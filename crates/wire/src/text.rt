@@ -4,7 +4,7 @@ ghost use mathlib.Core.List.{[], _∷_};
 ghost use Prim.Native.Nat.{_<_, min};
 ghost use lib.ListN.{length};
 ghost use Rattle.io.specs.Digits.{glyph};
-ghost use Rattle.wire.specs.Text.{hexOf, decimal, dash, bufferText, Put};
+ghost use Rattle.wire.specs.Text.{hexOf, decimal, Put};
 use crate::sizes::least;
 
 // The ASCII code of a digit.
@@ -70,40 +70,4 @@ pub fn put_hex(out: &mut [u8], at: usize, n: usize, x: u64) -> usize
     let k = least(n, 16);
     hex(&mut digits[..k], x);
     put(out, at, &digits[..k])
-}
-
-// The sign for a buffer of n elements.
-fn put_dash(out: &mut [u8], at: usize, n: usize) -> usize
-    ensures { λ r. ⌜ Put (dash n) (now (out .entry)) at (now (out .exit)) r ⌝ }
-{
-    if n == 0 {
-        return put_byte(out, at, b'-');
-    }
-    at
-}
-
-// A buffer of bytes, two digits each.
-pub fn put_bytes(out: &mut [u8], at: usize, s: &[u8]) -> usize
-    ensures { λ r. ⌜ Put (bufferText 2 (now (s .entry))) (now (out .entry)) at (now (out .exit)) r ⌝ }
-{
-    let mut end = put_dash(out, at, s.len());
-    let mut i = 0;
-    while i < s.len() {
-        end = put_hex(out, end, 2, s[i] as u64);
-        i += 1;
-    }
-    end
-}
-
-// A buffer of words, sixteen digits each.
-pub fn put_words(out: &mut [u8], at: usize, s: &[u64]) -> usize
-    ensures { λ r. ⌜ Put (bufferText 16 (now (s .entry))) (now (out .entry)) at (now (out .exit)) r ⌝ }
-{
-    let mut end = put_dash(out, at, s.len());
-    let mut i = 0;
-    while i < s.len() {
-        end = put_hex(out, end, 16, s[i]);
-        i += 1;
-    }
-    end
 }
