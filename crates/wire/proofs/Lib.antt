@@ -1,3 +1,3 @@
-pub mod LentLaws
+pub mod PartLaws
 pub mod NumberLaws
 pub mod TextLaws

@@ -4,13 +4,13 @@ use mathlib.Core.List.{List, _++_}
 use Prim.Native.Nat.{ℕ, suc, _+_, _-_, _*_, _^_, _≤_, _<_, min}
 use native.Mathlib.Nat.{lt-of-lt-of-le}
 use native.Mathlib.Omega.{arith}
-use native.Mathlib.Decide.{decLt}
 use lib.ListN.{length, getD, take, drop, length-drop, drop-of-length-le}
 use lib.Pow.{pow-mono}
 use lib.Seq.{getD-drop, drop-length, take-all, take-append-le, drop-append-le}
 use Rattle.bits.specs.Bits.{number, Below}
 use Rattle.bits.proofs.DigitLaws.{number-lt, number-step, pow-mul}
 use Rattle.wire.specs.Numbers.{numberAt}
+use Rattle.wire.proofs.PartLaws.{take-least}
 
 drop-below : (b q : ℕ) (ds : List ℕ) → Below b ds → Below b (drop q ds)
 drop-below b q ds h i = rw getD-drop (h (q + i))
@@ -48,11 +48,7 @@ pub number-there : (bs : List ℕ) (p n m x : ℕ) → m ≡ min n (length bs - 
 unfolding numberAt
 number-there bs p n m x e h =
     let k : p + m - p ≡ m = omega arith in
-    h ∙ ap (λ i. number 256 (take i (drop p bs))) k ∙ ap (number 256) (there (decLt (length bs - p) n))
-  where
-    there : Dec (length bs - p < n) → take m (drop p bs) ≡ take n (drop p bs)
-    there (yes l) = take-all m (drop p bs) (rw length-drop (omega arith)) ∙ sym (take-all n (drop p bs) (rw length-drop (omega arith)))
-    there (no l) = let k : m ≡ n = omega arith in rw k
+    h ∙ ap (λ i. number 256 (take i (drop p bs))) k ∙ ap (number 256) (take-least (drop p bs) n m (rw length-drop e))
 
 -- bytes that follow change nothing of a number that is there whole
 pub number-before : (bs rest : List ℕ) (p n : ℕ) → p + n ≤ length bs → numberAt (bs ++ rest) p n ≡ numberAt bs p n

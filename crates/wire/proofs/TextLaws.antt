@@ -8,11 +8,12 @@ use native.Mathlib.Numerals.{add-one}
 use native.Mathlib.Omega.{arith}
 use native.Mathlib.Decide.{decLt}
 use lib.Dec.{ltb}
-use lib.ListN.{length, getD, take, drop, set, length-append, length-take, length-drop, take-append-drop}
-use lib.Seq.{take-all, take-suc, drop-length, drop-drop, set-split, drop-at, length-take-le, take-at}
+use lib.ListN.{length, getD, take, drop, set, length-append, length-take, length-drop, take-append-drop, drop-of-length-le}
+use lib.Seq.{take-all, take-length, drop-length, drop-drop, set-split, drop-at, length-take-le, take-at}
 use borrow.Author.Tests.{lt-ltb, le-ltb}
+use borrow.Rule.Slice.PartMut.{putMid, midOf}
 use Rattle.io.specs.Digits.{glyph, digits}
-use Rattle.wire.proofs.LentLaws.{again}
+use Rattle.wire.proofs.PartLaws.{take-least, again}
 use Rattle.wire.specs.Text.{hexOf, decimals, decimal, fitting, Put}
 
 -- ---- text put into a buffer
@@ -110,12 +111,19 @@ pub all-fits : (text buffer : List ℕ) (p : ℕ) → p + length text ≤ length
 unfolding fitting
 all-fits text buffer p h = take-all (length buffer - p) text (omega arith)
 
--- a loop that puts byte after byte: one more, and all of them
-pub put-more : {a b c : List ℕ} {p q r : ℕ} (i : ℕ) (text : List ℕ) → i < length text → Put (take i text) a p b q → Put (getD text i 0 ∷ []) b q c r → Put (take (i + 1) text) a p c r
-put-more i text l h k = put-same (sym (rw (add-one, take-suc text i 0 l))) (put-both h k)
-
-pub put-all : {a b : List ℕ} {p q : ℕ} (i : ℕ) (text : List ℕ) → length text ≤ i → Put (take i text) a p b q → Put text a p b q
-put-all i text l h = put-same (take-all i text l) h
+-- the first n bytes of a text were copied to the front of what there is from place p on
+pub put-copied : (text out : List ℕ) (p n : ℕ) {part : List ℕ} {r : ℕ} → p ≤ length out → n ≡ min (length out - p) (length text) → r ≡ length (take n text)
+    → part ≡ take (length (take n text)) (take n text) ++ drop (length (take n text)) (midOf p (length out - p) out) → Put text out p (putMid p (length out - p) out part) (p + r)
+unfolding fitting
+put-copied text out p n {part} {r} l e f g =
+    let k : ℕ = length out - p in
+    let m : length (take n text) ≡ n = length-take-le n text (omega arith) in
+    let whole : midOf p k out ≡ drop p out = take-all k (drop p out) (rw length-drop (omega arith)) in
+    let nothing : drop k (drop p out) ≡ [] = drop-of-length-le (drop p out) {i = k} (rw length-drop (omega arith)) in
+    let fit = take-least text k n e in
+    let rest : drop n (drop p out) ≡ drop (p + r) out = drop-drop n p out ∙ ap (λ i. drop (p + i) out) (sym (f ∙ m)) in
+    let here : part ≡ take k text ++ drop (p + r) out = g ∙ ap₂ _++_ (take-length (take n text) ∙ fit) (ap₂ drop m whole ∙ rest) in
+    record { end = ap (λ i. p + i) (f ∙ ap length fit); holds = ap (λ x. take p out ++ x) (ap₂ _++_ here nothing ∙ append-nil (take k text ++ drop (p + r) out)) }
 
 -- ---- hexadecimal digits
 

@@ -42,13 +42,11 @@ fn put_byte(out: &mut [u8], at: usize, b: u8) -> usize
 pub fn put(out: &mut [u8], at: usize, text: &[u8]) -> usize
     ensures { λ r. ⌜ Put (now (text .entry)) (now (out .entry)) at (now (out .exit)) r ⌝ }
 {
-    let mut end = at;
-    let mut i = 0;
-    while i < text.len() {
-        end = put_byte(out, end, text[i]);
-        i += 1;
+    if out.len() <= at {
+        return at;
     }
-    end
+    let n = least(out.len() - at, text.len());
+    at + bytes::copy(&text[..n], &mut out[at..])
 }
 
 // A number in decimal.

@@ -2,7 +2,7 @@ use mathlib.Core.Path.{sym}
 use native.Mathlib.Omega.{arith}
 use lib.Seq.{length-take-le}
 use borrow.Author.Needs.{needs}
-use Rattle.wire.proofs.LentLaws.{again}
+use Rattle.wire.proofs.PartLaws.{again}
 use Rattle.wire.proofs.TextLaws as text
 use Rattle.wire.proofs.text.put_hex.Statement.{statement}
 use Rattle.wire.proofs.text.put_hex.Tie as tie
