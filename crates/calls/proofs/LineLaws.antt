@@ -1,122 +1,106 @@
--- Laws of a call's line: bytes that follow the call change nothing of it, and no second text is it. Assumes nothing.
+-- Laws of a call's line: bytes that follow the call change nothing of it, it has at most 32,928 bytes, and no second text is it. Assumes nothing.
 use mathlib.Core.Path.{_≡_, refl, sym, ap, subst, transport, _∙_}
 use mathlib.Core.List.{List, [], _∷_, _++_}
-use Prim.Native.Nat.{ℕ, suc, _+_, _*_, _≤_}
+use Prim.Native.Nat.{ℕ, suc, _+_, _*_, _≤_, _<_}
 use native.Mathlib.Nat.{mul-suc, mul-le-mul-left}
 use native.Mathlib.Omega.{arith}
-use lib.ListN.{length, getD, List·getD-append}
+use native.Mathlib.Decide.{decLt}
+use lib.Dec.{lit≤}
+use lib.ListN.{length, getD, length-append, List·getD-eq-default}
 use Rattle.bits.specs.Bits.{list}
-use Rattle.bits.proofs.BoundLaws.{list-ext}
+use Rattle.bits.proofs.BoundLaws.{list-ext, getD-list, length-list}
 use Rattle.pointer_promises.proofs.Unique as pointer
 use Rattle.grid_promises.proofs.OneAnswer as grid
-use Rattle.calls.specs.declared.input.WritePlaces.{WritePlaces}
-use Rattle.calls.specs.declared.input.ReadPlaces.{ReadPlaces}
-use Rattle.calls.specs.Format.{numberAt, callNumber, many, Stands, elements, callEnd}
-use Rattle.calls.specs.Text.{writeLine, readLine}
-use Rattle.calls.specs.Calls.{writePlaces, readPlaces, WriteStands, ReadStands, WriteLine, ReadLine, PointerWrite, PointerRead, GridWrite, GridRead, PointerWriteAt, PointerReadAt, GridWriteAt, GridReadAt, LineBy, LineOf, pointerWrite, pointerRead, gridWrite, gridRead, OneLine}
-use Rattle.calls.proofs.CallLaws.{write-whole, read-whole, call-1, call-2, call-3, call-4}
-use Rattle.calls.proofs.StreamLaws.{most, number-more, more}
+use Rattle.wire.specs.Numbers.{numberAt}
+use Rattle.wire.specs.Text.{decimal}
+use Rattle.wire.proofs.NumberLaws.{number-before}
+use Rattle.wire.proofs.TextLaws.{length-decimals}
+use Rattle.calls.specs.Format.{callNumber, many, Stands, elements, formOf, width, place, numbersOf, buffersOf, callEnd, Whole}
+use Rattle.calls.specs.Text.{bufferText, line}
+use Rattle.calls.specs.Calls.{LineBy, LineAt, LineOf, pointerWrite, pointerRead, gridWrite, gridRead, OneLine}
+use Rattle.calls.proofs.FormatLaws.{stands-at, number-stands}
+use Rattle.calls.proofs.StreamLaws.{place-more, tag-more}
+use Rattle.calls.proofs.ElementLaws.{length-elements}
+use Rattle.calls.proofs.TextLaws.{length-buffer}
 
 -- ---- bytes that follow
 
 module _ (bs rest : List ℕ) where
-  argument-more : (i : ℕ) → 1 + 8 * (i + 1) ≤ length bs → callNumber bs i ≡ callNumber (bs ++ rest) i
-  argument-more i h = sym (number-more bs rest (1 + 8 * i) 8 (omega arith))
-
   elements-more : (p w : ℕ) → Stands bs p w → elements bs p w ≡ elements (bs ++ rest) p w
   unfolding elements
   elements-more p w h =
-      let e : many (bs ++ rest) p ≡ many bs p = number-more bs rest p 2 (omega (arith, h .whole)) in
+      let e : many (bs ++ rest) p ≡ many bs p = number-before bs rest p 2 (omega (arith, h .whole)) in
       ap (λ n. list n (λ i. numberAt bs (p + 2 + w * i) w)) (sym e)
       ∙ list-ext (many (bs ++ rest) p) (λ i. numberAt bs (p + 2 + w * i) w) (λ i. numberAt (bs ++ rest) (p + 2 + w * i) w)
       (λ i l.
       let k : w * suc i ≤ w * many bs p = mul-le-mul-left w (omega arith) in
-      sym (number-more bs rest (p + 2 + w * i) w (omega (arith, mul-suc w i, h .whole))))
+      sym (number-before bs rest (p + 2 + w * i) w (omega (arith, mul-suc w i, h .whole))))
 
-  write-places-more : (n w : ℕ) → 1 + 8 * n + most (w ∷ w ∷ w ∷ w ∷ 1 ∷ []) ≤ length bs → writePlaces (bs ++ rest) n w ≡ writePlaces bs n w
-  unfolding writePlaces
-  write-places-more n w h = λ i. record {
-    «data» = more bs rest n [] (omega arith) i;
-    mask = more bs rest n (w ∷ []) (omega arith) i;
-    values = more bs rest n (w ∷ w ∷ []) (omega arith) i;
-    cells = more bs rest n (w ∷ w ∷ w ∷ []) (omega arith) i;
-    others = more bs rest n (w ∷ w ∷ w ∷ w ∷ []) (omega arith) i;
-    end = more bs rest n (w ∷ w ∷ w ∷ w ∷ 1 ∷ []) h i;
-  }
+  module _ (tag : ℕ) (h : Whole bs tag) where
+    numbers-of-more : numbersOf bs tag ≡ numbersOf (bs ++ rest) tag
+    numbers-of-more = list-ext (formOf tag .numbers) (callNumber bs) (callNumber (bs ++ rest)) (λ i l. sym (number-before bs rest (1 + 8 * i) 8 (number-stands bs tag i h l)))
 
-  read-places-more : (n w : ℕ) → 1 + 8 * n + most (w ∷ 1 ∷ w ∷ []) ≤ length bs → readPlaces (bs ++ rest) n w ≡ readPlaces bs n w
-  unfolding readPlaces
-  read-places-more n w h = λ i. record {
-    cells = more bs rest n [] (omega arith) i;
-    others = more bs rest n (w ∷ []) (omega arith) i;
-    shown = more bs rest n (w ∷ 1 ∷ []) (omega arith) i;
-    end = more bs rest n (w ∷ 1 ∷ w ∷ []) h i;
-  }
+    buffers-of-more : buffersOf bs tag ≡ buffersOf (bs ++ rest) tag
+    buffers-of-more =
+        list-ext (formOf tag .buffers) (λ i. elements bs (place bs tag i) (width tag i)) (λ i. elements (bs ++ rest) (place (bs ++ rest) tag i) (width tag i))
+        (λ i l.
+        let s = stands-at bs tag i h l in
+        elements-more (place bs tag i) (width tag i) s ∙ ap (λ p. elements (bs ++ rest) p (width tag i)) (sym (place-more bs rest (formOf tag) i (s .place))))
 
-  module _ (text : List ℕ) where
-    pointer-write-more : (p : WritePlaces) → WriteStands bs 1 1 p → PointerWriteAt bs p text → PointerWriteAt (bs ++ rest) p text
-    pointer-write-more p s l =
-        transport
-        (λ i.
-        PointerWrite (argument-more 0 (s .numbers) i) (elements-more (p .«data») 1 (s .data-stands) i) (elements-more (p .mask) 1 (s .mask-stands) i)
-        (elements-more (p .values) 1 (s .values-stand) i) (elements-more (p .cells) 1 (s .cells-stand) i) (elements-more (p .others) 1 (s .others-stand) i) text)
-        l
+  pub line-more : (text : List ℕ) → 0 < length bs → (callEnd bs ≡ 0 → ⊥) → LineOf bs text → LineOf (bs ++ rest) text
+  line-more text k h l =
+      let tag : ℕ = getD bs 0 0 in
+      subst (λ t. LineAt (bs ++ rest) t text) (sym (tag-more bs rest k)) (transport (λ i. LineBy tag (numbers-of-more tag h i) (buffers-of-more tag h i) text) l)
 
-    pointer-read-more : (p : ReadPlaces) → ReadStands bs 1 1 p → PointerReadAt bs p text → PointerReadAt (bs ++ rest) p text
-    pointer-read-more p s l =
-        transport
-        (λ i.
-        PointerRead (argument-more 0 (s .numbers) i) (elements-more (p .cells) 1 (s .cells-stand) i) (elements-more (p .others) 1 (s .others-stand) i)
-        (elements-more (p .shown) 1 (s .shown-stands) i) text)
-        l
+-- ---- how long a line is
 
-    grid-write-more : (p : WritePlaces) → WriteStands bs 3 8 p → GridWriteAt bs p text → GridWriteAt (bs ++ rest) p text
-    grid-write-more p s l =
-        transport
-        (λ i.
-        GridWrite (argument-more 0 (omega (arith, s .numbers)) i) (argument-more 1 (omega (arith, s .numbers)) i) (argument-more 2 (s .numbers) i)
-        (elements-more (p .«data») 8 (s .data-stands) i) (elements-more (p .mask) 8 (s .mask-stands) i) (elements-more (p .values) 8 (s .values-stand) i)
-        (elements-more (p .cells) 8 (s .cells-stand) i) (elements-more (p .others) 1 (s .others-stand) i) text)
-        l
+-- at most so many numbers and so many buffers of at most 1,025 elements
+data Sized : ℕ → ℕ → List (List ℕ) → Type 0 where
+  none : Sized 0 0 []
+  count : {m n : ℕ} {ws : List (List ℕ)} (x : ℕ) → Sized m n ws → Sized (suc m) n (decimal x ∷ ws)
+  bytes : {m n : ℕ} {ws : List (List ℕ)} (s : List ℕ) → length s ≤ 1025 → Sized m n ws → Sized m (suc n) (bufferText 2 s ∷ ws)
+  words : {m n : ℕ} {ws : List (List ℕ)} (s : List ℕ) → length s ≤ 1025 → Sized m n ws → Sized m (suc n) (bufferText 16 s ∷ ws)
 
-    grid-read-more : (p : ReadPlaces) → ReadStands bs 3 8 p → GridReadAt bs p text → GridReadAt (bs ++ rest) p text
-    grid-read-more p s l =
-        transport
-        (λ i.
-        GridRead (argument-more 0 (omega (arith, s .numbers)) i) (argument-more 1 (omega (arith, s .numbers)) i) (argument-more 2 (s .numbers) i)
-        (elements-more (p .cells) 8 (s .cells-stand) i) (elements-more (p .others) 1 (s .others-stand) i) (elements-more (p .shown) 8 (s .shown-stands) i) text)
-        l
+sized : {m n : ℕ} {ws : List (List ℕ)} (k : ℕ) (w : List ℕ) → length w ≤ k → Sized m n ws → length (line w ws) ≤ k + 1 + 21 * m + 16401 * n
+unfolding line
+sized k w l none = rw length-append (omega arith)
+sized k w l (count x r) = rw length-append (omega (arith, sized 20 (decimal x) (length-decimals 20 x) r))
+sized k w l (bytes s f r) = rw length-append (omega (arith, sized 2050 (bufferText 2 s) (length-buffer 2 1025 s (omega arith) f) r))
+sized k w l (words s f r) = rw length-append (omega (arith, sized 16400 (bufferText 16 s) (length-buffer 16 1025 s (omega arith) f) r))
 
-    by-tag : (tag : ℕ) → 16931 ≤ length bs → (callEnd bs ≡ 0 → ⊥) → getD bs 0 0 ≡ tag → LineBy bs text tag → LineBy (bs ++ rest) text tag
-    by-tag tag h z e (pointerWrite l) =
-        pointerWrite (rw (write-places-more 1 1 (omega arith)) (pointer-write-more _ (write-whole bs 1 1 _ refl (λ y. z (sym (call-1 bs e) ∙ y))) l))
-    by-tag tag h z e (pointerRead l) = pointerRead (rw (read-places-more 1 1 (omega arith)) (pointer-read-more _ (read-whole bs 1 1 _ refl (λ y. z (sym (call-2 bs e) ∙ y))) l))
-    by-tag tag h z e (gridWrite l) = gridWrite (rw (write-places-more 3 8 (omega arith)) (grid-write-more _ (write-whole bs 3 8 _ refl (λ y. z (sym (call-3 bs e) ∙ y))) l))
-    by-tag tag h z e (gridRead l) = gridRead (rw (read-places-more 3 8 (omega arith)) (grid-read-more _ (read-whole bs 3 8 _ refl (λ y. z (sym (call-4 bs e) ∙ y))) l))
+short : {m n : ℕ} {ws : List (List ℕ)} (x : ℕ) → Sized m n ws → m ≤ 5 → n ≤ 2 → length (line (decimal x) ws) ≤ 32928
+short x r h k = omega (arith, sized 20 (decimal x) (length-decimals 20 x) r)
 
-    pub line-more : 16931 ≤ length bs → (callEnd bs ≡ 0 → ⊥) → LineOf bs text → LineOf (bs ++ rest) text
-    line-more h z l = subst (LineBy (bs ++ rest) text) (sym (List·getD-append bs rest 0 0 (omega arith))) (by-tag (getD bs 0 0) h z refl l)
+few-short : {ns : List ℕ} {bss : List (List ℕ)} {text : List ℕ} (tag : ℕ) → ((i : ℕ) → length (getD bss i []) ≤ 1024) → LineBy tag ns bss text → length text ≤ 32928
+few-short tag f (pointerWrite _ c m) = short _ (count _ (count _ (bytes _ (omega (arith, f 3)) (bytes _ (omega (arith, f 4)) none)))) (lit≤ tt) (lit≤ tt)
+few-short tag f (pointerRead _ o) = short _ (bytes _ (omega (arith, f 2)) none) (lit≤ tt) (lit≤ tt)
+few-short tag f (gridWrite _ c m) = short _ (count _ (count _ (words _ (omega (arith, f 3)) (bytes _ (omega (arith, f 4)) none)))) (lit≤ tt) (lit≤ tt)
+few-short tag f (gridRead _ o) = short _ (words _ (omega (arith, f 2)) none) (lit≤ tt) (lit≤ tt)
+
+few : (bs : List ℕ) (tag : ℕ) → Whole bs tag → (i : ℕ) → length (getD (buffersOf bs tag) i []) ≤ 1024
+few bs tag h i =
+    let element : ℕ → List ℕ = λ j. elements bs (place bs tag j) (width tag j) in
+    elim (decLt i (formOf tag .buffers)) [
+      | yes l ↦ rw (getD-list (formOf tag .buffers) element [] i l, length-elements) (stands-at bs tag i h l .few)
+      | no l ↦ rw (List·getD-eq-default (buffersOf bs tag) [] {n = i} (rw length-list (omega arith))) (omega arith)
+    ]
+
+pub line-short : (bs text : List ℕ) → (callEnd bs ≡ 0 → ⊥) → LineOf bs text → length text ≤ 32928
+line-short bs text h l = few-short (getD bs 0 0) (few bs (getD bs 0 0) h) l
 
 -- ---- no second line
 
-module _ {Promised : ℕ → ℕ → ℕ → List ℕ → List ℕ → Type 0} {digits : ℕ} {cells others text text′ : List ℕ} where
-  same-write : (l : WriteLine digits cells others Promised text) (m : WriteLine digits cells others Promised text′) → l .number ≡ m .number → l .first ≡ m .first
-      → l .second ≡ m .second → l .cells′ ≡ m .cells′ → l .others′ ≡ m .others′ → text ≡ text′
-  same-write l m a b c d e = l .shows ∙ (λ i. writeLine (a i) (b i) (c i) digits (d i) (e i)) ∙ sym (m .shows)
-
-module _ {Promised : ℕ → List ℕ → Type 0} {digits : ℕ} {out text text′ : List ℕ} where
-  same-read : (l : ReadLine digits out Promised text) (m : ReadLine digits out Promised text′) → l .number ≡ m .number → l .out′ ≡ m .out′ → text ≡ text′
-  same-read l m a b = l .shows ∙ (λ i. readLine (a i) digits (b i)) ∙ sym (m .shows)
-
-one-by-tag : (bs text text′ : List ℕ) (tag : ℕ) → LineBy bs text tag → LineBy bs text′ tag → text ≡ text′
-one-by-tag bs text text′ tag (pointerWrite l) (pointerWrite m) =
-    let (a, c, d) = pointer.write-unique _ _ _ _ _ _ _ _ _ _ _ _ (l .promised) (m .promised) in same-write l m (λ i. a i .number) (λ i. a i .active) (λ i. a i .new) c d
-one-by-tag bs text text′ tag (pointerRead l) (pointerRead m) =
-    let (a, o) = pointer.read-unique _ _ _ _ _ _ _ _ (l .promised) (m .promised) in same-read l m (λ i. a i .number) o
-one-by-tag bs text text′ tag (gridWrite l) (gridWrite m) =
-    let (a, c, d) = grid.one-write _ _ _ _ _ _ _ _ _ _ (l .promised) (m .promised) in same-write l m (λ i. a i .number) (λ i. a i .levels) (λ i. a i .faults) c d
-one-by-tag bs text text′ tag (gridRead l) (gridRead m) =
-    let (a, o) = grid.one-read _ _ _ _ _ _ _ _ _ _ (l .promised) (m .promised) in same-read l m (λ i. a i .number) o
+one-by-tag : {ns : List ℕ} {bss : List (List ℕ)} {text text′ : List ℕ} (tag : ℕ) → LineBy tag ns bss text → LineBy tag ns bss text′ → text ≡ text′
+one-by-tag tag (pointerWrite l _ _) (pointerWrite m _ _) =
+    let (a, c, d) = pointer.write-unique _ _ _ _ _ _ _ _ _ _ _ _ l m in
+    λ i. line (decimal (a i .number)) (decimal (a i .active) ∷ decimal (a i .new) ∷ bufferText 2 (c i) ∷ bufferText 2 (d i) ∷ [])
+one-by-tag tag (pointerRead l _) (pointerRead m _) =
+    let (a, o) = pointer.read-unique _ _ _ _ _ _ _ _ l m in λ i. line (decimal (a i .number)) (bufferText 2 (o i) ∷ [])
+one-by-tag tag (gridWrite l _ _) (gridWrite m _ _) =
+    let (a, c, d) = grid.one-write _ _ _ _ _ _ _ _ _ _ l m in
+    λ i. line (decimal (a i .number)) (decimal (a i .levels) ∷ decimal (a i .faults) ∷ bufferText 16 (c i) ∷ bufferText 2 (d i) ∷ [])
+one-by-tag tag (gridRead l _) (gridRead m _) =
+    let (a, o) = grid.one-read _ _ _ _ _ _ _ _ _ _ l m in λ i. line (decimal (a i .number)) (bufferText 16 (o i) ∷ [])
 
 pub one-line : OneLine
-one-line bs text text′ l m = one-by-tag bs text text′ (getD bs 0 0) l m
+one-line bs text text′ l m = one-by-tag (getD bs 0 0) l m

@@ -1,16 +1,15 @@
 -- What stands in the input: numbers, buffers and calls, by the bytes from a call's first on. Places count bytes from 0; the place 0, where no number and no
 -- buffer can start or end, stands for what is no call. Assumes nothing.
 use mathlib.Core.Path.{_≡_}
-use mathlib.Core.Bool.{Bool, cond, not, _&&_}
+use mathlib.Core.Bool.{Bool, true, cond, not, _&&_, _||_}
 use mathlib.Core.List.{List, [], _∷_}
-use Prim.Native.Nat.{ℕ, _+_, _*_, _≤_}
-use lib.Dec.{eqb, leb}
-use lib.ListN.{length, take, drop, getD}
-use Rattle.bits.specs.Bits.{number, list}
-
--- the number of the n bytes from place p on, the lowest first
-unfoldable pub numberAt : List ℕ → ℕ → ℕ → ℕ
-numberAt bs p n = number 256 (take n (drop p bs))
+use Prim.Native.Nat.{ℕ, zero, suc, _+_, _*_, _≤_}
+use lib.Dec.{eqb, leb, ltb}
+use lib.ListN.{length, getD}
+use Rattle.bits.specs.Bits.{some, list}
+use Rattle.wire.specs.Numbers.{numberAt}
+use Rattle.calls.specs.declared.input.Form.{Form}
+use Rattle.calls.specs.declared.input.Reach.{Reach}
 
 -- number i of a call, from 0 on: they follow the tag, eight bytes each
 abbrev pub callNumber : List ℕ → ℕ → ℕ
@@ -24,9 +23,9 @@ afterNumbers bs n = cond (leb (1 + 8 * n) (length bs)) (1 + 8 * n) 0
 abbrev pub many : List ℕ → ℕ → ℕ
 many bs p = numberAt bs p 2
 
--- a buffer with elements of w bytes stands at place p whole, and has at most 512 of them
+-- a buffer with elements of w bytes stands at place p whole, and has at most 1024 of them
 unfoldable pub isBuffer : List ℕ → ℕ → ℕ → Bool
-isBuffer bs p w = not (eqb p 0) && leb (p + 2) (length bs) && leb (many bs p) 512 && leb (p + 2 + w * many bs p) (length bs)
+isBuffer bs p w = not (eqb p 0) && leb (many bs p) 1024 && leb (p + 2 + w * many bs p) (length bs)
 
 -- where it ends
 unfoldable pub afterBuffer : List ℕ → ℕ → ℕ → ℕ
@@ -35,26 +34,80 @@ afterBuffer bs p w = cond (isBuffer bs p w) (p + 2 + w * many bs p) 0
 -- so it stands there
 pub record Stands (bs : List ℕ) (p w : ℕ) : Type 0 where
   pub place : p ≡ 0 → ⊥
-  pub few : many bs p ≤ 512
+  pub few : many bs p ≤ 1024
   pub whole : p + 2 + w * many bs p ≤ length bs
+
+-- it says how many elements it has, and they are too many: whatever follows, it is no buffer
+unfoldable pub isOver : List ℕ → ℕ → Bool
+isOver bs p = not (eqb p 0) && leb (p + 2) (length bs) && ltb 1024 (many bs p)
 
 -- its elements
 unfoldable pub elements : List ℕ → ℕ → ℕ → List ℕ
 elements bs p w = list (many bs p) (λ i. numberAt bs (p + 2 + w * i) w)
 
--- where buffers end that follow each other, with elements of these widths
-unfoldable pub afterBuffers : List ℕ → ℕ → List ℕ → ℕ
-afterBuffers bs p [] = p
-afterBuffers bs p (w ∷ ws) = afterBuffers bs (afterBuffer bs p w) ws
+-- ---- calls
 
--- where a call ends that has n numbers and then buffers with elements of these widths
-unfoldable pub afterCall : List ℕ → ℕ → List ℕ → ℕ
-afterCall bs n ws = afterBuffers bs (afterNumbers bs n) ws
+-- a form of call: how many numbers it has, how many buffers, and the widths of their elements, with 0 where there is no buffer
+abbrev pub form : ℕ → ℕ → List ℕ → Form
+form numbers buffers widths = record { numbers = numbers; buffers = buffers; widths = widths }
 
--- where the call ends that stands at the front of the bytes: the table of docs/CALLS.md, by the tag
-unfoldable pub callEnd : List ℕ → ℕ
-callEnd bs =
-    cond (eqb (getD bs 0 0) 1) (afterCall bs 1 (1 ∷ 1 ∷ 1 ∷ 1 ∷ 1 ∷ []))
-    (cond (eqb (getD bs 0 0) 2) (afterCall bs 1 (1 ∷ 1 ∷ 1 ∷ []))
-    (cond (eqb (getD bs 0 0) 3) (afterCall bs 3 (8 ∷ 8 ∷ 8 ∷ 8 ∷ 1 ∷ []))
-    (cond (eqb (getD bs 0 0) 4) (afterCall bs 3 (8 ∷ 1 ∷ 8 ∷ [])) 0)))
+-- the form of what is no call
+abbrev pub noForm : Form
+noForm = form 0 0 (0 ∷ 0 ∷ 0 ∷ 0 ∷ 0 ∷ [])
+
+-- the table of docs/CALLS.md, by the tag from 0 on
+unfoldable pub table : List Form
+table =
+    noForm
+    ∷ form 1 5 (1 ∷ 1 ∷ 1 ∷ 1 ∷ 1 ∷ [])
+    ∷ form 1 3 (1 ∷ 1 ∷ 1 ∷ 0 ∷ 0 ∷ [])
+    ∷ form 3 5 (8 ∷ 8 ∷ 8 ∷ 8 ∷ 1 ∷ [])
+    ∷ form 3 3 (8 ∷ 1 ∷ 8 ∷ 0 ∷ 0 ∷ [])
+    ∷ []
+
+unfoldable pub formOf : ℕ → Form
+formOf tag = getD table tag noForm
+
+abbrev pub width : ℕ → ℕ → ℕ
+width tag i = getD (formOf tag .widths) i 0
+
+-- where buffer i of a call of this form starts, from 0 on; where i is their number, where the call ends
+unfoldable pub placeOf : List ℕ → Form → ℕ → ℕ
+placeOf bs f zero = afterNumbers bs (f .numbers)
+placeOf bs f (suc i) = afterBuffer bs (placeOf bs f i) (getD (f .widths) i 0)
+
+abbrev pub place : List ℕ → ℕ → ℕ → ℕ
+place bs tag i = placeOf bs (formOf tag) i
+
+-- where a call of this form ends; every call has a buffer
+unfoldable pub formEnd : List ℕ → Form → ℕ
+formEnd bs f = cond (eqb (f .buffers) 0) 0 (placeOf bs f (f .buffers))
+
+-- no call of this form can stand there, whatever follows: it is the form of no call, or a buffer has too many elements
+unfoldable pub isBad : List ℕ → Form → Bool
+isBad bs f = eqb (f .buffers) 0 || some (f .buffers) (λ i. isOver bs (placeOf bs f i))
+
+-- a place was found, and whether a buffer before it has too many elements
+pub record Found (bs : List ℕ) (f : Form) (i : ℕ) (r : Reach) : Type 0 where
+  pub at : r .at ≡ placeOf bs f i
+  pub over : r .over ≡ some i (λ j. isOver bs (placeOf bs f j))
+
+-- a call with this tag stands there whole
+abbrev pub Whole : List ℕ → ℕ → Type 0
+Whole bs tag = formEnd bs (formOf tag) ≡ 0 → ⊥
+
+-- its numbers, and the elements of its buffers
+abbrev pub numbersOf : List ℕ → ℕ → List ℕ
+numbersOf bs tag = list (formOf tag .numbers) (callNumber bs)
+
+abbrev pub buffersOf : List ℕ → ℕ → List (List ℕ)
+buffersOf bs tag = list (formOf tag .buffers) (λ i. elements bs (place bs tag i) (width tag i))
+
+-- where the call ends that stands at the front of the bytes
+abbrev pub callEnd : List ℕ → ℕ
+callEnd bs = formEnd bs (formOf (getD bs 0 0))
+
+-- the call at the front of the bytes is cut short: it does not stand there whole, but may with bytes that follow
+unfoldable pub isCutShort : List ℕ → Bool
+isCutShort [] = true
+isCutShort (tag ∷ bs) = eqb (callEnd (tag ∷ bs)) 0 && not (isBad (tag ∷ bs) (formOf tag))

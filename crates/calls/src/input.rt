@@ -1,43 +1,15 @@
 // Numbers and buffers as they stand in the input.
 ghost use mathlib.Core.Path.{_≡_};
 ghost use Prim.Native.Nat.{_+_, _*_, _≤_};
+ghost use lib.Dec.{leb};
 ghost use lib.ListN.{length};
-ghost use Rattle.bits.specs.Bits.{number};
-ghost use Rattle.calls.specs.Format.{numberAt, callNumber, Stands, elements, afterNumbers, afterBuffer};
-ghost use Rattle.calls.specs.Calls.{writePlaces, readPlaces, Loaded};
-
-// A byte as a wider number.
-fn wide(b: u8) -> u64
-    ensures { λ r. ⌜ r ≡ b ⌝ }
-{
-    b as u64
-}
-
-// The number that at most eight bytes make, the lowest first.
-fn number_of(s: &[u8]) -> u64
-    requires { ⌜ length (now s) ≤ 8 ⌝ }
-    ensures { λ r. ⌜ r ≡ number 256 (now (s .entry)) ⌝ }
-{
-    let mut i = s.len();
-    let mut x = 0;
-    while i > 0 {
-        i -= 1;
-        x = x * 256 + wide(s[i]);
-    }
-    x
-}
-
-// The number in n bytes from a place on.
-pub fn number_at(s: &[u8], at: usize, n: usize) -> u64
-    requires { ⌜ (n ≤ 8) × (at + n ≤ length (now s)) ⌝ }
-    ensures { λ r. ⌜ r ≡ numberAt (now (s .entry)) at n ⌝ }
-{
-    number_of(&s[at..at + n])
-}
+ghost use Rattle.calls.specs.Format.{callNumber, Stands, elements, afterNumbers, afterBuffer, isOver, form, formOf, place, formEnd, isBad, Found};
+ghost use Rattle.calls.specs.Calls.{Loaded};
+use wire::input::number_at;
 
 // A call's number i, from 0 on.
 pub fn call_number(s: &[u8], i: usize) -> usize
-    requires { ⌜ (i ≤ 2) × (1 + 8 * (i + 1) ≤ length (now s)) ⌝ }
+    requires { ⌜ i ≤ 3 ⌝ }
     ensures { λ r. ⌜ r ≡ callNumber (now (s .entry)) i ⌝ }
 {
     number_at(s, 1 + 8 * i, 8) as usize
@@ -45,96 +17,132 @@ pub fn call_number(s: &[u8], i: usize) -> usize
 
 // Where a call's numbers end, 0 where they are cut short.
 fn after_numbers(s: &[u8], n: usize) -> usize
-    requires { ⌜ n ≤ 3 ⌝ }
+    requires { ⌜ n ≤ 4 ⌝ }
     ensures { λ r. ⌜ r ≡ afterNumbers (now (s .entry)) n ⌝ }
 {
     let end = 1 + 8 * n;
     if end <= s.len() { end } else { 0 }
 }
 
-// Where the buffer that starts at `at` ends, its elements width bytes each; 0 where at is 0, where it has more than 512 elements or where it is cut short.
+// Whether there are n bytes from a place on.
+fn reaches(len: usize, at: usize, n: usize) -> bool
+    ensures { λ r. ⌜ r ≡ leb (at + n) len ⌝ }
+{
+    if len < at {
+        return false;
+    }
+    n <= len - at
+}
+
+// Where the buffer that starts at `at` ends, its elements width bytes each; 0 where at is 0, where it has more than 1024 elements or where it is cut short.
 fn after_buffer(s: &[u8], at: usize, width: usize) -> usize
     requires { ⌜ width ≤ 8 ⌝ }
     ensures { λ r. ⌜ r ≡ afterBuffer (now (s .entry)) at width ⌝ }
 {
+    let n = number_at(s, at, 2) as usize;
     if at == 0 {
         return 0;
     }
-    if s.len() < 2 {
+    if 1024 < n {
         return 0;
     }
-    if s.len() - 2 < at {
+    let size = 2 + width * n;
+    if !reaches(s.len(), at, size) {
         return 0;
     }
-    let first = at + 2;
-    let n = number_at(s, at, 2) as usize;
-    if 512 < n {
-        return 0;
-    }
-    if s.len() - first < width * n {
-        return 0;
-    }
-    first + width * n
+    at + size
 }
 
-// Where the buffers of a write start, and where the last of them ends.
-pub struct WritePlaces {
-    pub data: usize,
-    pub mask: usize,
-    pub values: usize,
-    pub cells: usize,
-    pub others: usize,
-    pub end: usize,
-}
-
-// The places of a write with n numbers, whose elements take width bytes, but for the last buffer's, which are bytes. They end at 0 where it is none.
-pub fn write_places(s: &[u8], n: usize, width: usize) -> WritePlaces
-    requires { ⌜ (n ≤ 3) × (width ≤ 8) ⌝ }
-    ensures { λ r. ⌜ r ≡ writePlaces (now (s .entry)) n width ⌝ }
+// Whether the buffer that starts at `at` says how many elements it has, and that is more than 1024.
+fn is_over(s: &[u8], at: usize) -> bool
+    ensures { λ r. ⌜ r ≡ isOver (now (s .entry)) at ⌝ }
 {
-    let data = after_numbers(s, n);
-    let mask = after_buffer(s, data, width);
-    let values = after_buffer(s, mask, width);
-    let cells = after_buffer(s, values, width);
-    let others = after_buffer(s, cells, width);
-    let end = after_buffer(s, others, 1);
-    WritePlaces {
-        data,
-        mask,
-        values,
-        cells,
-        others,
-        end,
-    }
+    (at != 0) & reaches(s.len(), at, 2) & (1024 < number_at(s, at, 2))
 }
 
-// Where the buffers of a read start, and where the last of them ends.
-pub struct ReadPlaces {
-    pub cells: usize,
-    pub others: usize,
-    pub shown: usize,
-    pub end: usize,
+// A call's form: how many numbers it has, how many buffers, and how many bytes an element of each has, 0 where there is none.
+pub struct Form {
+    pub numbers: usize,
+    pub buffers: usize,
+    pub widths: [usize; 5],
 }
 
-// The places of a read with n numbers, whose cells and output take width bytes an element. They end at 0 where it is none.
-pub fn read_places(s: &[u8], n: usize, width: usize) -> ReadPlaces
-    requires { ⌜ (n ≤ 3) × (width ≤ 8) ⌝ }
-    ensures { λ r. ⌜ r ≡ readPlaces (now (s .entry)) n width ⌝ }
+fn shape(numbers: usize, buffers: usize, widths: [usize; 5]) -> Form
+    ensures { λ r. ⌜ r ≡ form numbers buffers widths ⌝ }
 {
-    let cells = after_numbers(s, n);
-    let others = after_buffer(s, cells, width);
-    let shown = after_buffer(s, others, 1);
-    let end = after_buffer(s, shown, width);
-    ReadPlaces {
-        cells,
-        others,
-        shown,
-        end,
+    Form {
+        numbers,
+        buffers,
+        widths,
     }
 }
 
-// The elements of a buffer of bytes.
-pub fn elements(s: &[u8], at: usize) -> &[u8]
+// The form of the calls with this tag; without buffers where there are none.
+fn form_of(tag: u8) -> Form
+    ensures { λ r. ⌜ r ≡ formOf tag ⌝ }
+{
+    match tag {
+        1 => shape(1, 5, [1, 1, 1, 1, 1]),
+        2 => shape(1, 3, [1, 1, 1, 0, 0]),
+        3 => shape(3, 5, [8, 8, 8, 8, 1]),
+        4 => shape(3, 3, [8, 1, 8, 0, 0]),
+        _ => shape(0, 0, [0, 0, 0, 0, 0]),
+    }
+}
+
+// A place, and whether a buffer before it has too many elements.
+pub struct Reach {
+    pub at: usize,
+    pub over: bool,
+}
+
+// Where buffer i of a call with this tag starts, or the call ends where i is their number; 0 where it does not stand there whole up to there.
+fn find(s: &[u8], tag: u8, i: usize) -> Reach
+    requires { ⌜ i ≤ 5 ⌝ }
+    ensures { λ r. ⌜ Found (now (s .entry)) (formOf tag) i r ⌝ }
+{
+    let f = form_of(tag);
+    let mut at = after_numbers(s, f.numbers);
+    let mut over = false;
+    let mut j = 0;
+    while j < i {
+        over = is_over(s, at) | over;
+        at = after_buffer(s, at, f.widths[j]);
+        j += 1;
+    }
+    Reach { at, over }
+}
+
+fn place(s: &[u8], tag: u8, i: usize) -> usize
+    requires { ⌜ i ≤ 5 ⌝ }
+    ensures { λ r. ⌜ r ≡ place (now (s .entry)) tag i ⌝ }
+{
+    let found = find(s, tag, i);
+    found.at
+}
+
+// Where a call with this tag ends, 0 where none stands there.
+pub fn call_end(s: &[u8], tag: u8) -> usize
+    ensures { λ r. ⌜ r ≡ formEnd (now (s .entry)) (formOf tag) ⌝ }
+{
+    let f = form_of(tag);
+    if f.buffers == 0 {
+        return 0;
+    }
+    place(s, tag, f.buffers)
+}
+
+// Whether no call with this tag can stand there, whatever follows.
+pub fn is_bad(s: &[u8], tag: u8) -> bool
+    ensures { λ r. ⌜ r ≡ isBad (now (s .entry)) (formOf tag) ⌝ }
+{
+    let f = form_of(tag);
+    let found = find(s, tag, f.buffers);
+    (f.buffers == 0) | found.over
+}
+
+// The elements of the buffer of bytes that starts at `at`.
+fn elements_at(s: &[u8], at: usize) -> &[u8]
     requires { ⌜ Stands (now s) at 1 ⌝ }
     ensures { λ r. ⌜ now r ≡ elements (now (s .entry)) at 1 ⌝ }
 {
@@ -143,19 +151,10 @@ pub fn elements(s: &[u8], at: usize) -> &[u8]
     &s[first..end]
 }
 
-// Copies the elements of a buffer of bytes, and says how many there are.
-pub fn load_bytes(s: &[u8], at: usize, out: &mut [u8]) -> usize
-    requires { ⌜ Stands (now s) at 1 ⌝ }
-    requires { ⌜ 512 ≤ length (now out) ⌝ }
-    ensures { λ r. ⌜ Loaded (now (s .entry)) at 1 (now (out .exit)) r ⌝ }
-{
-    bytes::copy(elements(s, at), out)
-}
-
-// The same of a buffer of words.
-pub fn load_words(s: &[u8], at: usize, out: &mut [u64]) -> usize
+// Copies the elements of the buffer of words that starts at `at`, and says how many there are.
+fn words_at(s: &[u8], at: usize, out: &mut [u64]) -> usize
     requires { ⌜ Stands (now s) at 8 ⌝ }
-    requires { ⌜ 512 ≤ length (now out) ⌝ }
+    requires { ⌜ 1024 ≤ length (now out) ⌝ }
     ensures { λ r. ⌜ Loaded (now (s .entry)) at 8 (now (out .exit)) r ⌝ }
 {
     let first = at + 2;
@@ -166,4 +165,30 @@ pub fn load_words(s: &[u8], at: usize, out: &mut [u64]) -> usize
         i += 1;
     }
     n
+}
+
+// The elements of buffer i of a call with this tag, which is one of bytes.
+pub fn elements(s: &[u8], tag: u8, i: usize) -> &[u8]
+    requires { ⌜ (i ≤ 4) × Stands (now s) (place (now s) tag i) 1 ⌝ }
+    ensures { λ r. ⌜ now r ≡ elements (now (s .entry)) (place (now (s .entry)) tag i) 1 ⌝ }
+{
+    elements_at(s, place(s, tag, i))
+}
+
+// Copies them, and says how many there are.
+pub fn load_bytes(s: &[u8], tag: u8, i: usize, out: &mut [u8]) -> usize
+    requires { ⌜ (i ≤ 4) × Stands (now s) (place (now s) tag i) 1 ⌝ }
+    requires { ⌜ 1024 ≤ length (now out) ⌝ }
+    ensures { λ r. ⌜ Loaded (now (s .entry)) (place (now (s .entry)) tag i) 1 (now (out .exit)) r ⌝ }
+{
+    bytes::copy(elements(s, tag, i), out)
+}
+
+// The same of a buffer of words.
+pub fn load_words(s: &[u8], tag: u8, i: usize, out: &mut [u64]) -> usize
+    requires { ⌜ (i ≤ 4) × Stands (now s) (place (now s) tag i) 8 ⌝ }
+    requires { ⌜ 1024 ≤ length (now out) ⌝ }
+    ensures { λ r. ⌜ Loaded (now (s .entry)) (place (now (s .entry)) tag i) 8 (now (out .exit)) r ⌝ }
+{
+    words_at(s, place(s, tag, i), out)
 }
