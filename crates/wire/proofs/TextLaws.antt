@@ -27,6 +27,12 @@ take-both zero t u = let z : 0 - length t ≡ 0 = omega arith in rw z
 take-both (suc n) [] u = let z : suc n - 0 ≡ suc n = omega arith in rw z
 take-both (suc n) (x ∷ t) u = let z : suc n - suc (length t) ≡ n - length t = omega arith in rw (z, take-both n t u)
 
+pub put-one : (out : List ℕ) (p b : ℕ) → p < length out → Put (b ∷ []) out p (set out p b) (p + 1)
+unfolding fitting
+put-one out p b h =
+    let e : take (length out - p) (b ∷ []) ≡ b ∷ [] = take-all (length out - p) (b ∷ []) (omega arith) in
+    record { end = rw e; holds = set-split out p b h ∙ ap₂ (λ t q. take p out ++ (t ++ drop q out)) (sym e) (sym (add-one p)) }
+
 pub put-none : {out : List ℕ} {p : ℕ} → Put [] out p out p
 unfolding fitting
 put-none {out} {p} = record { end = rw take-none (omega arith); holds = rw take-none (sym (take-append-drop p out)) }
@@ -45,12 +51,6 @@ left-past {text} {a} {b} {p} {q} l h =
     let z : length a - p ≡ 0 = omega arith in
     let e : q ≡ p = h .end ∙ rw z (omega arith) in
     (h .holds ∙ rw (z, e) (take-append-drop p a), e)
-
-pub put-one : (out : List ℕ) (p b : ℕ) → p < length out → Put (b ∷ []) out p (set out p b) (p + 1)
-unfolding fitting
-put-one out p b h =
-    let e : take (length out - p) (b ∷ []) ≡ b ∷ [] = take-all (length out - p) (b ∷ []) (omega arith) in
-    record { end = rw e; holds = rw (e, add-one, set-split out p b h) }
 
 pub put-same : {t u a b : List ℕ} {p q : ℕ} → t ≡ u → Put t a p b q → Put u a p b q
 put-same {t} {u} {a} {b} {p} {q} e h = subst (λ x. Put x a p b q) e h
