@@ -1,5 +1,5 @@
 -- Laws of a call's line: bytes that follow the call change nothing of it, it has at most 32,928 bytes, and no second text is it. Assumes nothing.
-use mathlib.Core.Path.{_≡_, refl, sym, ap, subst, transport, _∙_}
+use mathlib.Core.Path.{_≡_, sym, ap, subst, transport, _∙_}
 use mathlib.Core.List.{List, [], _∷_, _++_}
 use Prim.Native.Nat.{ℕ, suc, _+_, _*_, _≤_, _<_}
 use native.Mathlib.Nat.{mul-suc, mul-le-mul-left}

@@ -2,13 +2,13 @@
 use mathlib.Core.Path.{_≡_, refl, sym, ap, ap₂, subst, _∙_}
 use mathlib.Core.Bool.{Bool, true, false, cond}
 use mathlib.Core.List.{List, [], _∷_, _++_, append-assoc, append-nil}
-use Prim.Native.Nat.{ℕ, zero, suc, _+_, _-_, _*_, _/_, _%_, _^_, _≤_, _<_, min}
+use Prim.Native.Nat.{ℕ, zero, suc, _+_, _-_, _/_, _%_, _^_, _≤_, _<_, min}
 use native.Mathlib.Nat.{pow-suc}
 use native.Mathlib.Numerals.{add-one}
 use native.Mathlib.Omega.{arith}
 use native.Mathlib.Decide.{decLt}
 use lib.Dec.{ltb}
-use lib.ListN.{length, getD, take, drop, set, length-append, length-take, length-drop, take-append-drop, drop-of-length-le}
+use lib.ListN.{length, take, drop, set, length-append, length-take, length-drop, take-append-drop, drop-of-length-le}
 use lib.Seq.{take-all, take-length, drop-length, drop-drop, set-split, drop-at, length-take-le, take-at}
 use borrow.Author.Tests.{lt-ltb, le-ltb}
 use borrow.Rule.Slice.PartMut.{putMid, midOf}
@@ -124,6 +124,12 @@ put-copied text out p n {part} {r} l e f g =
     let rest : drop n (drop p out) ≡ drop (p + r) out = drop-drop n p out ∙ ap (λ i. drop (p + i) out) (sym (f ∙ m)) in
     let here : part ≡ take k text ++ drop (p + r) out = g ∙ ap₂ _++_ (take-length (take n text) ∙ fit) (ap₂ drop m whole ∙ rest) in
     record { end = ap (λ i. p + i) (f ∙ ap length fit); holds = ap (λ x. take p out ++ x) (ap₂ _++_ here nothing ∙ append-nil (take k text ++ drop (p + r) out)) }
+
+-- there is no second answer
+pub one-put : {t a b b′ : List ℕ} {p q q′ : ℕ} → Put t a p b q → Put t a p b′ q′ → (q ≡ q′) × (b ≡ b′)
+one-put {t} {a} {p = p} h k =
+    let e = h .end ∙ sym (k .end) in
+    (e, h .holds ∙ ap (λ x. take p a ++ (fitting t a p ++ drop x a)) e ∙ sym (k .holds))
 
 -- ---- hexadecimal digits
 
