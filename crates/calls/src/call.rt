@@ -4,6 +4,7 @@ ghost use Prim.Native.Nat.{_<_};
 ghost use lib.ListN.{length};
 ghost use Rattle.calls.specs.Format.{Whole, isCutShort};
 ghost use Rattle.calls.specs.Calls.{LineAt, PutLine, Printed};
+use crate::input::MOST_ELEMENTS;
 use crate::input::call_end;
 use crate::input::call_number;
 use crate::input::elements;
@@ -26,8 +27,8 @@ fn pointer_write(s: &[u8], out: &mut [u8], put: usize) -> usize
     requires { ⌜ Whole (now s) 1 ⌝ }
     ensures { λ r. ⌜ PutLine (LineAt (now (s .entry)) 1) (now (out .entry)) put (now (out .exit)) r ⌝ }
 {
-    let mut cells = [0u8; 1024];
-    let mut metadata = [0u8; 1024];
+    let mut cells = [0u8; MOST_ELEMENTS];
+    let mut metadata = [0u8; MOST_ELEMENTS];
     let i = load_bytes(s, 1, 3, &mut cells);
     let j = load_bytes(s, 1, 4, &mut metadata);
     let r = pointer::write(
@@ -50,7 +51,7 @@ fn pointer_read(s: &[u8], out: &mut [u8], put: usize) -> usize
     requires { ⌜ Whole (now s) 2 ⌝ }
     ensures { λ r. ⌜ PutLine (LineAt (now (s .entry)) 2) (now (out .entry)) put (now (out .exit)) r ⌝ }
 {
-    let mut shown = [0u8; 1024];
+    let mut shown = [0u8; MOST_ELEMENTS];
     let i = load_bytes(s, 2, 2, &mut shown);
     let r = pointer::read(
         call_number(s, 0),
@@ -67,11 +68,11 @@ fn grid_write(s: &[u8], out: &mut [u8], put: usize) -> usize
     requires { ⌜ Whole (now s) 3 ⌝ }
     ensures { λ r. ⌜ PutLine (LineAt (now (s .entry)) 3) (now (out .entry)) put (now (out .exit)) r ⌝ }
 {
-    let mut wanted = [0u64; 1024];
-    let mut mask = [0u64; 1024];
-    let mut values = [0u64; 1024];
-    let mut cells = [0u64; 1024];
-    let mut counters = [0u8; 1024];
+    let mut wanted = [0u64; MOST_ELEMENTS];
+    let mut mask = [0u64; MOST_ELEMENTS];
+    let mut values = [0u64; MOST_ELEMENTS];
+    let mut cells = [0u64; MOST_ELEMENTS];
+    let mut counters = [0u8; MOST_ELEMENTS];
     let d = load_words(s, 3, 0, &mut wanted);
     let m = load_words(s, 3, 1, &mut mask);
     let v = load_words(s, 3, 2, &mut values);
@@ -99,8 +100,8 @@ fn grid_read(s: &[u8], out: &mut [u8], put: usize) -> usize
     requires { ⌜ Whole (now s) 4 ⌝ }
     ensures { λ r. ⌜ PutLine (LineAt (now (s .entry)) 4) (now (out .entry)) put (now (out .exit)) r ⌝ }
 {
-    let mut cells = [0u64; 1024];
-    let mut shown = [0u64; 1024];
+    let mut cells = [0u64; MOST_ELEMENTS];
+    let mut shown = [0u64; MOST_ELEMENTS];
     let c = load_words(s, 4, 0, &mut cells);
     let i = load_words(s, 4, 2, &mut shown);
     let r = grid::read(

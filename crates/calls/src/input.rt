@@ -7,6 +7,9 @@ ghost use Rattle.calls.specs.Format.{callNumber, Stands, elements, after
 ghost use Rattle.calls.specs.Calls.{Loaded};
 use wire::input::number_at;
 
+// A buffer of a call may have so many elements.
+pub const MOST_ELEMENTS: usize = 1024;
+
 // A call's number i, from 0 on.
 pub fn call_number(s: &[u8], i: usize) -> usize
     requires { ⌜ i ≤ 3 ⌝ }
@@ -34,7 +37,7 @@ fn reaches(len: usize, at: usize, n: usize) -> bool
     n <= len - at
 }
 
-// Where the buffer that starts at `at` ends, its elements width bytes each; 0 where at is 0, where it has more than 1024 elements or where it is cut short.
+// Where the buffer that starts at `at` ends, its elements width bytes each; 0 where at is 0, where it has too many elements or where it is cut short.
 fn after_buffer(s: &[u8], at: usize, width: usize) -> usize
     requires { ⌜ width ≤ 8 ⌝ }
     ensures { λ r. ⌜ r ≡ afterBuffer (now (s .entry)) at width ⌝ }
@@ -43,7 +46,7 @@ fn after_buffer(s: &[u8], at: usize, width: usize) -> usize
     if at == 0 {
         return 0;
     }
-    if 1024 < n {
+    if MOST_ELEMENTS < n {
         return 0;
     }
     let size = 2 + width * n;
@@ -53,11 +56,11 @@ fn after_buffer(s: &[u8], at: usize, width: usize) -> usize
     at + size
 }
 
-// Whether the buffer that starts at `at` says how many elements it has, and that is more than 1024.
+// Whether the buffer that starts at `at` says how many elements it has, and that these are too many.
 fn is_over(s: &[u8], at: usize) -> bool
     ensures { λ r. ⌜ r ≡ isOver (now (s .entry)) at ⌝ }
 {
-    (at != 0) & reaches(s.len(), at, 2) & (1024 < number_at(s, at, 2))
+    (at != 0) & reaches(s.len(), at, 2) & (MOST_ELEMENTS < number_at(s, at, 2) as usize)
 }
 
 // A call's form: how many numbers it has, how many buffers, and how many bytes an element of each has, 0 where there is none.
