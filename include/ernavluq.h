@@ -10,6 +10,8 @@
  * aligns a uint64_t. A buffer that is written, one whose pointer is not const, overlaps no other buffer of the call, and no other thread touches it
  * meanwhile. Nothing is kept after the call, so calls on separate buffers may run at the same time. The caller finds the stuck cells, and keeps metadata
  * and counters where no cell is stuck.
+ *
+ * docs/INTERFACE.md draws the layouts of metadata and counters, and says of each call what every buffer holds before and afterwards.
  */
 #ifndef ERNAVLUQ_H
 #define ERNAVLUQ_H
@@ -67,7 +69,7 @@ ernavluq_pointer_read_answer ernavluq_pointer_read(
 /* Writes data to a row. Takes n entries (1 to 10), the data, which cells are stuck and at what, and the row's metadata as it stands. Accepted, cells
  * holds what the cells then hold: a stuck cell its stuck value, any other its data bit. The metadata holds the entries: the active ones keep their place
  * and pointer, and each position whose cell is stuck at the wrong bit has one. Reading the two gives the data. Of the old cells only the length counts.
- * Refusals: 1 to 6, and 6 exactly where active entries and positions without one are together more than n. */
+ * Refusals: 1 to 6, and 6 exactly where active entries and positions that need one are together more than n. */
 ernavluq_pointer_write_answer ernavluq_pointer_write(
     size_t n,
     const uint8_t *data, size_t data_length,
