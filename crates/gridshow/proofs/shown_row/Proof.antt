@@ -27,18 +27,8 @@ shown-row-spec =
     Inv-loop
     μ-loop
     loop-holds
-    -- add-shown
-    (λ c. omega arith)
-    -- element-copy-out-shown
-    (λ c. omega arith)
-    -- shown-requires
-    (λ c κs. omega arith)
-    -- shl-v
-    (λ c. omega arith)
-    -- add-j
-    (λ c. omega arith)
-    -- loop-less
-    (λ c. omega arith)
+    -- add-shown, element-copy-out-shown, shown-requires, shl-v, add-j, loop-less
+    (λ c. omega arith) (λ c. omega arith) (λ c κs. omega arith) (λ c. omega arith) (λ c. omega arith) (λ c. omega arith)
     -- loop-again
     (λ c.
     let a = c .before .before .before .before .before .args in

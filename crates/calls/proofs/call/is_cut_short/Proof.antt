@@ -9,11 +9,7 @@ is-cut-short-spec =
     (tie.spec
     -- returns
     (λ c. cut-none _ (c .if1 .taken))
-    -- shared-slice-read-tag
-    (λ c. omega arith)
-    -- call-end-requires
-    (λ c κs. tt)
-    -- is-bad-requires
-    (λ c κs. tt)
+    -- shared-slice-read-tag, call-end-requires, is-bad-requires
+    (λ c. omega arith) (λ c κs. tt) (λ c κs. tt)
     -- returns-2
     (λ c. cut-some _ (c .before .before .before .if1 .left) (c .before .call-end .ensures) (c .is-bad .ensures)))

@@ -23,20 +23,8 @@ pattern-spec =
     μ-loop
     -- loop-holds
     (λ c. (omega arith, pattern-none (c .args .rows .now) (c .args .columns .now) (c .args .i)))
-    -- mul-only-if
-    (λ c. search needs)
-    -- element-copy-out-only-if
-    (λ c. search needs)
-    -- shr-only-if
-    (λ c. search needs)
-    -- mul-only-if-2
-    (λ c. search needs)
-    -- element-copy-out-only-if-2
-    (λ c. search needs)
-    -- only-if-requires
-    (λ c κs. search needs)
-    -- add-m
-    (λ c. search needs)
+    -- mul-only-if, element-copy-out-only-if, shr-only-if, mul-only-if-2, element-copy-out-only-if-2, only-if-requires, add-m
+    (λ c. search needs) (λ c. search needs) (λ c. search needs) (λ c. search needs) (λ c. search needs) (λ c κs. search needs) (λ c. search needs)
     -- loop-less
     (λ c. search needs)
     -- loop-again

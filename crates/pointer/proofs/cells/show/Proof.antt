@@ -28,32 +28,16 @@ show-spec =
     Inv-loop μ-loop Inv-loop2 μ-loop2
     -- loop-holds
     (λ c. (omega arith, omega arith, unfold list in refl))
-    -- shared-slice-read-out
-    (λ c. omega arith)
-    -- slice-write-out
-    (λ c. omega arith)
-    -- add-i
-    (λ c. omega arith)
-    -- loop-less
-    (λ c. omega arith)
+    -- shared-slice-read-out, slice-write-out, add-i, loop-less
+    (λ c. omega arith) (λ c. omega arith) (λ c. omega arith) (λ c. omega arith)
     -- loop-again
     (λ c. let h = c .before .before .loop .inv in (simp length-set (h .0), omega arith, list-more _ _ _ _ (omega arith) (h .2) refl))
     -- loop2-holds
     (λ c.
     let l = c .before .loop in
     (omega arith, patch-start (c .before .before .before .before .before .args .cells .now) _ _ (omega arith) (λ k. c .before .before .before .before .shared-slice-known .given k .fits) (copy-done (l .i) _ _ (omega arith) (l .inv .0) (omega arith) (l .inv .2))))
-    -- entry-at-requires
-    (λ c κs. omega arith)
-    -- slice-read-shown
-    (λ c. omega arith)
-    -- shown-requires
-    (λ c κs. tt)
-    -- slice-write-out-2
-    (λ c. omega arith)
-    -- add-i-2
-    (λ c. omega arith)
-    -- loop2-less
-    (λ c. omega arith)
+    -- entry-at-requires, slice-read-shown, shown-requires, slice-write-out-2, add-i-2, loop2-less
+    (λ c κs. omega arith) (λ c. omega arith) (λ c κs. tt) (λ c. omega arith) (λ c. omega arith) (λ c. omega arith)
     -- loop2-again
     (λ c.
     let l = c .before .before .before .before .loop2 in

@@ -23,18 +23,8 @@ store-spec =
     Inv-loop μ-loop
     -- loop-holds
     (λ c. (omega arith, omega arith, unfold list words bytes in refl))
-    -- shared-slice-read-wanted
-    (λ c. omega arith)
-    -- shared-slice-read-cells
-    (λ c. omega arith)
-    -- shared-slice-read-cells-2
-    (λ c. omega arith)
-    -- slice-write-cells
-    (λ c. omega arith)
-    -- add-j
-    (λ c. omega arith)
-    -- loop-less
-    (λ c. omega arith)
+    -- shared-slice-read-wanted, shared-slice-read-cells, shared-slice-read-cells-2, slice-write-cells, add-j, loop-less
+    (λ c. omega arith) (λ c. omega arith) (λ c. omega arith) (λ c. omega arith) (λ c. omega arith) (λ c. omega arith)
     -- loop-again
     (λ c.
     let i = c .before .before .before .before .loop .inv in

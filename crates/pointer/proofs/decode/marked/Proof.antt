@@ -18,20 +18,8 @@ marked-spec =
     Inv-loop μ-loop
     -- loop-holds
     (λ c. (omega arith, mark-start _))
-    -- entry-at-requires
-    (λ c κs. omega arith)
-    -- array-read-b
-    (λ c. omega arith)
-    -- add-shown
-    (λ c. omega arith)
-    -- shown-requires
-    (λ c κs. tt)
-    -- array-write-served
-    (λ c. omega arith)
-    -- add-i
-    (λ c. omega arith)
-    -- loop-less
-    (λ c. omega arith)
+    -- entry-at-requires, array-read-b, add-shown, shown-requires, array-write-served, add-i, loop-less
+    (λ c κs. omega arith) (λ c. omega arith) (λ c. omega arith) (λ c κs. tt) (λ c. omega arith) (λ c. omega arith) (λ c. omega arith)
     -- loop-again
     (λ c.
     let l = c .before .before .before .loop in

@@ -24,18 +24,8 @@ kept-spec =
     Inv-loop μ-loop
     -- loop-holds
     (λ c. (omega arith, unfold list in noted-start _))
-    -- entry-at-requires
-    (λ c κs. omega arith)
-    -- renewed-requires
-    (λ c κs. tt)
-    -- add-e
-    (λ c. omega arith)
-    -- mul-digits
-    (λ c. omega arith)
-    -- array-write-digits
-    (λ c. omega arith)
-    -- loop-less
-    (λ c. omega arith)
+    -- entry-at-requires, renewed-requires, add-e, mul-digits, array-write-digits, loop-less
+    (λ c κs. omega arith) (λ c κs. tt) (λ c. omega arith) (λ c. omega arith) (λ c. omega arith) (λ c. omega arith)
     -- loop-again
     (λ c.
     let l = c .before .before .before .loop in
