@@ -1,15 +1,15 @@
 -- Laws of the bits of numbers and of words made of bits, and of the machine's operations on words. Assumes nothing.
 use mathlib.Core.Path.{_≡_, refl, sym, ap, ap₂, subst, _∙_}
-use mathlib.Core.Bool.{Bool, true, false, xor, _&&_, _||_}
+use mathlib.Core.Bool.{Bool, true, false, not, xor, _&&_, _||_, and-true, and-self}
 use mathlib.Core.Logic.{_↔_, _≢_, _⊎_, ⊎-elim}
-use Prim.Native.Nat.{ℕ, zero, suc, _+_, _-_, _*_, _/_, _%_, _^_, _≤_, _<_, min, max}
+use Prim.Native.Nat.{ℕ, zero, suc, _+_, _-_, _*_, _/_, _%_, _^_, _≤_, _<_, min, max, compare·suc-zero, compare·suc-suc}
 use native.Mathlib.Nat.{mod-lt, mod-one, mod-eq-of-lt, div-one, div-eq-of-lt, lt-of-lt-of-le, pow-suc}
 use native.Mathlib.Numerals.{one-add, add-one}
 use native.Mathlib.Omega.{arith}
 use native.Mathlib.Decide.{ℕ-discrete, decLe}
 use borrow.Author.Tests.{eqb-true, lt-ltb, le-ltb}
 use lib.Arith.{lt-one, lt-of-le-ne}
-use lib.Bits.{bitAnd, bitOr, bitXor, differ, and-step, or-step, xor-step, and-shr, or-shr, xor-shr, or-shifted}
+use lib.Bits.{bitAnd, bitOr, bitXor, differ, and-step, or-step, xor-step, and-shr, or-shr, xor-shr, or-shifted, and-le-r}
 use lib.Count.{ones, ones-step, under, trailingZeros}
 use lib.Dec.{eqb, leb, ltb}
 use lib.Pow.{pow-pos, pow-mono, pow-lt, field, mod-mod-pow, mod-pow-add, high, low, shl-exact, shr-shr, ones-lt}
@@ -263,3 +263,33 @@ below-lowest (suc k) x j h = go (has x 0) refl (below-lowest k (x / 2)) j h
     go true e r i l = let o : x % 2 ≡ 1 = has-first x ∙ ap num e in absurd (omega (arith, rw o at l))
     go false e r zero l = e
     go false e r (suc i) l = let o : x % 2 ≡ 0 = has-first x ∙ ap num e in has-half x i ∙ r i (omega (arith, rw o at l))
+
+has-even : (x : ℕ) → x % 2 ≡ 0 → has x 0 ≡ false
+has-even x e = sym (eqb-num (has x 0)) ∙ ap (λ y. eqb y 1) (sym (has-first x) ∙ e)
+
+without-lowest : (k x : ℕ) → x < 2 ^ k → x ≢ 0 → (j : ℕ) → has x j && has (x - 1) j ≡ has x j && not (eqb j (trailingZeros k x))
+unfolding trailingZeros
+without-lowest zero x l h j = absurd (h (lt-one l))
+without-lowest (suc k) x l h j =
+    let e : 2 ^ suc k ≡ 2 ^ k * 2 = pow-suc 2 k in
+    go (has x 0) refl (without-lowest k (x / 2) (omega arith)) j
+  where
+    go : (t : Bool) → has x 0 ≡ t → (x / 2 ≢ 0 → (i : ℕ) → has (x / 2) i && has (x / 2 - 1) i ≡ has (x / 2) i && not (eqb i (trailingZeros k (x / 2))))
+        → (i : ℕ) → has x i && has (x - 1) i ≡ has x i && not (eqb i (under (x % 2) (trailingZeros k (x / 2))))
+    go true e r zero = let o : x % 2 ≡ 1 = has-first x ∙ ap num e in rw (o, has-even (x - 1) (omega arith))
+    go true e r (suc i) =
+        let o : x % 2 ≡ 1 = has-first x ∙ ap num e in
+        let d : (x - 1) / 2 ≡ x / 2 = omega arith in
+        rw (o, has-half x, has-half (x - 1), d, compare·suc-zero) (and-self (has (x / 2) i) ∙ sym (and-true (has (x / 2) i)))
+    go false e r zero = rw e
+    go false e r (suc i) =
+        let o : x % 2 ≡ 0 = has-first x ∙ ap num e in
+        let d : (x - 1) / 2 ≡ x / 2 - 1 = omega arith in
+        rw (o, has-half x, has-half (x - 1), d, compare·suc-suc) (r (omega arith) i)
+
+-- `x & (x - 1)` is x without it
+pub clear-lowest : (k x j : ℕ) → x < 2 ^ k → x ≢ 0 → has (bitAnd x (x - 1)) j ≡ has x j && not (eqb j (trailingZeros k x))
+clear-lowest k x j l h = has-and x (x - 1) j ∙ without-lowest k x l h j
+
+pub clear-less : (x : ℕ) → x ≢ 0 → bitAnd x (x - 1) < x
+clear-less x h = omega (arith, and-le-r x (x - 1))

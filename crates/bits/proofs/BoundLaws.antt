@@ -1,6 +1,6 @@
 -- Laws of what is said of all indices below a bound: some, sum, list. Assumes nothing.
 use mathlib.Core.Path.{_≡_, refl, sym, ap, ap₂, subst, _∙_}
-use mathlib.Core.Bool.{Bool, true, false, _||_}
+use mathlib.Core.Bool.{Bool, true, false, _||_, or-assoc}
 use mathlib.Core.List.{List, [], _∷_, _++_}
 use mathlib.Core.Logic.{_↔_, _≢_, ⊎-elim}
 use Prim.Native.Nat.{ℕ, zero, suc, _+_, _≤_, _<_, min}
@@ -41,15 +41,16 @@ none-below n f h k l = false-when (f k) (λ p. clash (some-in n f k l p) h)
 pub some-none : (n : ℕ) (f : ℕ → Bool) → ((k : ℕ) → k < n → f k ≡ false) → some n f ≡ false
 some-none n f h = false-when (some n f) (λ p. let (k, l, q) = some-out n f p in clash q (h k l))
 
--- a loop that looks for an index that passes: none so far, and none after one more
-pub none-more : (i : ℕ) (f : ℕ → Bool) → some i f ≡ false → f i ≡ false → some (i + 1) f ≡ false
-unfolding some
-none-more i f h e = rw (add-one, e) h
-
 pub some-ext : (n : ℕ) (f g : ℕ → Bool) → ((k : ℕ) → k < n → f k ≡ g k) → some n f ≡ some n g
 unfolding some
 some-ext zero f g e = refl
 some-ext (suc n) f g e = ap₂ _||_ (e n (omega arith)) (some-ext n f g (λ k l. e k (omega arith)))
+
+-- what is below m + n is below m, or m and something below n
+pub some-join : (m n : ℕ) (f : ℕ → Bool) → some (m + n) f ≡ some n (λ k. f (m + k)) || some m f
+unfolding some
+some-join m zero f = let e : m + 0 ≡ m = omega arith in rw e
+some-join m (suc n) f = let e : m + suc n ≡ suc (m + n) = omega arith in rw e (ap (λ t. f (m + n) || t) (some-join m n f) ∙ sym (or-assoc (f (m + n)) (some n (λ k. f (m + k))) (some m f)))
 
 -- some index passes exactly where the fact that is tested holds of one
 pub some-iff : (n : ℕ) (f : ℕ → Bool) (A : ℕ → Type 0) → ((k : ℕ) → (f k ≡ true) ↔ A k) → (some n f ≡ true) ↔ ((k : ℕ) × (k < n) × A k)

@@ -1,12 +1,12 @@
 -- Laws of tests: what true and false exclude, and the Boolean operations. Assumes nothing.
-use mathlib.Core.Path.{_≡_, refl, sym}
+use mathlib.Core.Path.{_≡_, refl, sym, ap, _∙_}
 use mathlib.Core.Bool.{Bool, true, false, not, xor, _&&_, _||_, or-true}
 use mathlib.Core.Logic.{_↔_, _⊎_, inl, inr, ⊎-elim}
 use Prim.Native.Nat.{ℕ, zero, suc, _<_, _≤_}
 use native.Mathlib.Omega.{arith}
 use native.Mathlib.Decide.{decLt}
 use lib.Dec.{eqb, leb, ltb}
-use borrow.Author.Tests.{eqb-true, eq-eqb, leb-true, le-leb, ltb-true, lt-ltb, not-true}
+use borrow.Author.Tests.{eqb-true, eq-eqb, leb-true, le-leb, lt-leb, ltb-true, lt-ltb, le-ltb, not-true}
 use Rattle.bits.specs.Bits.{num}
 
 -- no test is both
@@ -80,6 +80,12 @@ xor-back true false = refl
 xor-back false true = refl
 xor-back false false = refl
 
+pub xor-assoc : (a b c : Bool) → xor a (xor b c) ≡ xor (xor a b) c
+unfolding xor
+xor-assoc true true c = xor-twice true c ∙ sym (xor-false c)
+xor-assoc true false c = ap (xor true) (xor-false c)
+xor-assoc false b c = xor-false (xor b c) ∙ ap (λ t. xor t c) (sym (xor-false b))
+
 pub xor-iff : (a b : Bool) → (xor a b ≡ true) ↔ (b ≡ not a)
 unfolding xor
 xor-iff true true = (λ h. sym h, λ h. sym h)
@@ -104,6 +110,9 @@ num-eqb (suc (suc x)) h = absurd (omega arith)
 
 pub eqb-same : (x : ℕ) → eqb x x ≡ true
 eqb-same x = eq-eqb x x refl
+
+pub ltb-not : (x y : ℕ) → ltb x y ≡ not (leb y x)
+ltb-not x y = ⊎-elim (λ h. rw (lt-leb y x h) (lt-ltb x y h)) (λ h. rw (le-leb y x h) (le-ltb x y h)) (lt-or-le x y)
 
 -- ---- a test and the fact that it tests
 

@@ -19,8 +19,8 @@ use Rattle.rdis.proofs.LevelLaws.{levels-none, levels-stop, levels-next, left-r
 use Rattle.rdis.proofs.CounterLaws.{Counts as Tallied, levels-counted}
 use Rattle.grid.specs.declared.levels.Sub.{Sub}
 use Rattle.grid.specs.declared.levels.Taken.{Taken}
-use Rattle.grid_counters.specs.Promises.{times}
-use Rattle.grid.specs.Steps.{blockOf, subgrid, crossings, Follows, Planned}
+use Rattle.grid_sets.specs.Sets.{times, crossings}
+use Rattle.grid.specs.Steps.{blockOf, subgrid, Follows, Planned}
 
 -- ---- one set more
 

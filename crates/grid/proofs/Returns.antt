@@ -1,32 +1,35 @@
 -- What a code proof cites at each return of a read and of a write: from the tests' values there to the whole promise. Assumes nothing.
-use Prim.Native.Nat.{ℕ, _+_, _-_, _%_, _<_, min}
+use Prim.Native.Nat.{ℕ, _+_, _<_, _≤_}
 use mathlib.Core.Path.{_≡_, refl, sym, ap, ap₂, subst, _∙_}
 use mathlib.Core.Bool.{Bool, true, false, not, xor, cond, _&&_}
 use mathlib.Core.List.{List}
 use native.Mathlib.Omega.{arith}
-use borrow.Author.Tests.{eq-eqb}
-use lib.ListN.{length, getD, replicate, List·getD-append}
-use lib.Dec.{eqb}
-use Rattle.bits.proofs.BoundLaws.{length-list}
-use Rattle.bits.proofs.ByteLaws.{words-ext}
+use borrow.Author.Tests.{ltb-false}
+use lib.ListN.{length, getD}
+use lib.Dec.{eqb, ltb}
+use Rattle.bits.proofs.TestLaws.{clash, xor-false}
+use Rattle.bits.proofs.BoundLaws.{none-below}
+use Rattle.bits.proofs.BitLaws.{has-high}
+use Rattle.bits.proofs.ByteLaws.{words-narrow}
 use Rattle.rdis.specs.Block.{Block, bit, faults}
 use Rattle.rdis.specs.Levels.{masked, unmaskable, plan}
 use Rattle.rdis.specs.Cells.{flips, stored, reading}
-use Rattle.rdis.specs.Packing.{width, bytesFor, inOrder, packed, counter, unpacked}
-use Rattle.rdis.proofs.PackingLaws.{counter-unpacked}
-use Rattle.grid_counters.specs.Promises.{fit, unpackNumber, Unpack}
+use Rattle.rdis.specs.Packing.{width, bytesFor, inOrder, packed, counter, rowCounter, columnCounter, above, spareClear}
+use Rattle.grid_sets.specs.Sets.{odd}
+use Rattle.grid_sets.proofs.SetLaws.{odd-flips, odd-past}
+use Rattle.grid_counters.specs.Promises.{roomy, unpackNumber, Unpack}
 use Rattle.grid_counters.specs.declared.Counters.{Counters}
-use Rattle.grid_counters.proofs.PromiseLaws.{fit-few}
+use Rattle.grid_counters.proofs.PromiseLaws.{is-roomy}
 use Rattle.grid_promises.specs.Calls.{inRange, sized, past, readSized, writeSized, block, writePast, readNumber, writeNumber}
-use Rattle.grid_promises.specs.Refusals.{ReadLengths, WriteLengths}
+use Rattle.grid_promises.specs.Refusals.{InRange, ReadLengths, WriteLengths}
 use Rattle.grid_promises.specs.Promises.{Read, Write}
 use Rattle.grid_checks.specs.Numbers.{judged, readJudged, writeJudged}
-use Rattle.gridshow.specs.Promises.{shownBy, Show}
-use Rattle.gridshow.proofs.ShowLaws.{can-show}
+use Rattle.grid_patterns.specs.Promises.{invertedBy, Invert}
+use Rattle.grid_patterns.proofs.InvertLaws.{can-invert}
 use Rattle.grid.specs.Steps.{ReadSized, WriteSized}
 use Rattle.grid_promises.specs.declared.ReadAnswer.{ReadAnswer}
 use Rattle.grid_promises.specs.declared.WriteAnswer.{WriteAnswer}
-use Rattle.grid_promises.proofs.RefusalLaws.{in-range, read-sized, write-sized}
+use Rattle.grid_promises.proofs.RefusalLaws.{in-range, read-sized, write-sized, within as within-words}
 use Rattle.grid_promises.proofs.Demands.{read-demands, write-demands}
 
 -- ---- numbers and lengths
@@ -77,11 +80,16 @@ module _ (m n k : ℕ) (cells counters out : List ℕ) where
       pub read-comes-back : (a : ReadAnswer) (after : List ℕ) → Read (length cells) n k cells counters out a after → Read m n k cells counters out a after
       read-comes-back a after r = subst (λ y. Read y n k cells counters out a after) (read-lengths .cellWords) r
 
--- the counters of a block in range take the bytes that they should
-pub fits-in : (m n k : ℕ) (counters : List ℕ) → inRange m n k ≡ true → length counters ≡ bytesFor (width k) (m + n) → fit k (m + n) (length counters) ≡ true
-fits-in m n k counters h e =
-    let r = in-range m n k .0 h in
-    sym (fit-few k (m + n) (length counters) (omega (arith, r .rows .1, r .columns .1))) ∙ eq-eqb (length counters) (bytesFor (width k) (m + n)) e
+-- a reading of bytes with room that accepts has seen no counter above K
+accepts : (r s a : Bool) → r ≡ true → cond {A = ℕ} (not r) 2 (cond (not s) 3 (cond a 4 0)) ≡ 0 → a ≡ false
+accepts true true true h e = absurd (omega arith)
+accepts true true false h e = refl
+accepts true false a h e = absurd (omega arith)
+accepts false s a h e = clash h refl
+
+-- there is room for the counters of a block in range
+pub room-in : (m n k : ℕ) (counters : List ℕ) → inRange m n k ≡ true → length counters ≡ bytesFor (width k) (m + n) → roomy k m n (length counters) ≡ true
+room-in m n k counters h e = let r = in-range m n k .0 h in is-roomy k m n (length counters) (record { rows = r .rows .1; columns = r .columns .1; size = e })
 
 module _ (n k : ℕ) (cells counters out : List ℕ) (p : ReadSized n k cells counters out) where
   sizes : readSized (length cells) n k (length cells) (length counters) (length out) ≡ true
@@ -92,28 +100,50 @@ module _ (n k : ℕ) (cells counters out : List ℕ) (p : ReadSized n k cells co
   read-past h = refused-read (length cells) n k cells counters out 3 (λ z. omega arith) (rw (p .ranges, sizes, h))
 
   -- within the columns the counters decide
-  module _ (within : past n cells ≡ false) (c : Counters) (u : Unpack k (length cells + n) counters c) where
+  module _ (within : past n cells ≡ false) (c : Counters) (u : Unpack k (length cells) n counters c) where
+    room : roomy k (length cells) n (length counters) ≡ true
+    room = room-in (length cells) n k counters (p .ranges) (p .sizes)
+
     number-is : c .number ≡ readNumber (length cells) n k cells counters (length out)
     unfolding readNumber unpackNumber
-    number-is = u .number ∙ rw (fits-in (length cells) n k counters (p .ranges) (p .sizes), p .ranges, sizes, within)
+    number-is = u .number ∙ rw (room, p .ranges, sizes, within)
 
     pub read-refused : (c .number ≡ 0 → ⊥) → Read (length cells) n k cells counters out (record { number = c .number }) out
     read-refused h = refused-read (length cells) n k cells counters out (c .number) h number-is
 
-    counter-is : (t : ℕ) → t < length cells + n → getD (c .held) t 0 ≡ counter (width k) counters t
-    unfolding unpacked
-    counter-is t l =
-        rw (u .counters (fits-in (length cells) n k counters (p .ranges) (p .sizes)))
-        (List·getD-append (unpacked (width k) (length cells + n) counters) (replicate (128 - (length cells + n)) 0) 0 t (rw length-list l) ∙ counter-unpacked (width k) (length cells + n) t counters l)
+    range : InRange (length cells) n k
+    range = in-range (length cells) n k .0 (p .ranges)
 
-    pub accepted-read : (after : List ℕ) → c .number ≡ 0 → Show n cells (c .held) out after → Read (length cells) n k cells counters out (record { number = c .number }) after
-    unfolding shownBy reading flips
+    -- no counter is above K where it accepts
+    low : c .number ≡ 0 → (t : ℕ) → t < length cells + n → counter (width k) counters t ≤ k
+    unfolding unpackNumber above
+    low z t l =
+        let none = accepts (roomy k (length cells) n (length counters)) (spareClear (width k) (length cells + n) counters) (above k (length cells + n) counters) room (sym (u .number) ∙ z) in
+        omega (arith, ltb-false k (counter (width k) counters t) (none-below (length cells + n) (λ t. ltb k (counter (width k) counters t)) none t l))
+
+    cell-inside : c .number ≡ 0 → (i j : ℕ) → i < length cells → j < n
+        → invertedBy (c .rows) (c .columns) k cells i j ≡ xor (flips (rowCounter (width k) counters) (columnCounter (width k) (length cells) counters) i j) (bit cells i j)
+    unfolding invertedBy
+    cell-inside z i j h l =
+        ap (λ t. xor t (bit cells i j))
+        (ap₂ (λ x y. odd x y k i j) (u .rowSets room) (u .columnSets room)
+        ∙ odd-flips (length cells) n k i j (rowCounter (width k) counters) (columnCounter (width k) (length cells) counters) (omega (arith, range .levels .1)) (low z i (omega arith)) h l)
+
+    cell-outside : (i j : ℕ) → n ≤ j → invertedBy (c .rows) (c .columns) k cells i j ≡ false
+    unfolding invertedBy bit
+    cell-outside i j h =
+        ap₂ xor (ap (λ y. odd (c .rows) y k i j) (u .columnSets room) ∙ odd-past (c .rows) n k i j (columnCounter (width k) (length cells) counters) h)
+        (has-high n (getD cells i 0) j (within-words n cells .0 within i) h)
+        ∙ xor-false false
+
+    pub accepted-read : (after : List ℕ) → c .number ≡ 0 → Invert (c .rows) (c .columns) k cells out after → Read (length cells) n k cells counters out (record { number = c .number }) after
+    unfolding reading
     accepted-read after z s =
-        let r = in-range (length cells) n k .0 (p .ranges) in
         read-demands (length cells) n k cells counters out (record { number = c .number }) after (record {
           number = number-is;
           untouched = λ l. absurd (omega (arith, z));
-          shown = λ _. s .shown (can-show n (length cells) (length out) (r .columns .1) (r .rows .1) (p .room)) ∙ words-ext (length cells) n _ _ (λ i j q r. ap₂ (λ x y. xor (eqb (min x y % 2) 1) (bit cells i j)) (counter-is i (omega arith)) (counter-is (length cells + j) (omega arith)));
+          shown = λ _. s .inverted (can-invert k (length cells) (length out) (omega (arith, range .levels .1)) (range .rows .1) (p .room))
+              ∙ words-narrow (length cells) n 64 _ _ (range .columns .1) (cell-inside z) (λ i j _ h _. cell-outside i j h);
         })
 
 -- ---- a write

@@ -1,15 +1,13 @@
 -- What the private steps of a write and a read say. Nobody who reads the promises needs this page. Assumes nothing.
-use Prim.Native.Nat.{ℕ, _+_, _%_, _^_, _<_, _≤_, min}
+use Prim.Native.Nat.{ℕ, _+_, _^_, _<_, _≤_, min}
 use mathlib.Core.Path.{_≡_}
-use mathlib.Core.Bool.{Bool, true, false, xor, cond, _&&_}
+use mathlib.Core.Bool.{Bool, true, false}
 use mathlib.Core.List.{List}
-use lib.ListN.{length, getD}
-use lib.Dec.{eqb}
-use Rattle.bits.specs.Bits.{num, sum, has}
-use Rattle.rdis.specs.Block.{Block, bit}
+use lib.ListN.{length}
+use Rattle.rdis.specs.Block.{Block}
 use Rattle.rdis.specs.Levels.{Subgrid, Outcome, masked, unmaskable, levels}
 use Rattle.rdis.specs.Packing.{width, bytesFor}
-use Rattle.grid_counters.specs.Promises.{times}
+use Rattle.grid_sets.specs.Sets.{times, crossings}
 use Rattle.grid_promises.specs.Calls.{block, inRange}
 use Rattle.grid.specs.declared.levels.Sub.{Sub}
 use Rattle.grid.specs.declared.levels.Taken.{Taken}
@@ -40,10 +38,6 @@ pub record Rows (d mask values : List ℕ) : Type 0 where
 abbrev pub subgrid : Sub → Subgrid
 subgrid s = record { rows = s .rows; columns = s .columns }
 
--- how many of the first n pairs of sets have i and j
-unfoldable pub crossings : List ℕ → List ℕ → ℕ → ℕ → ℕ → ℕ
-crossings rows columns n i j = sum n (λ m. num (has (getD rows m 0) i && has (getD columns m 0) j))
-
 -- the sets that the levels took give the counters of an outcome, and where they cross the smaller of two counters
 pub record Counts (p : Taken) (l : ℕ) (r c : ℕ → ℕ) : Type 0 where
   pub ended : p .ended ≡ true
@@ -62,7 +56,3 @@ pub record Planned (d mask values : List ℕ) (s : Sub) (w : Bool) (k : ℕ) (t 
   pub rowSets : length (t .rows) ≡ 8
   pub columnSets : length (t .columns) ≡ 8
   pub follows : (n : ℕ) → s .columns < 2 ^ n → Follows t (levels (blockOf n d mask values) k w (subgrid s))
-
--- what a cell holds, by the sets
-unfoldable pub heldBy : List ℕ → List ℕ → List ℕ → List ℕ → List ℕ → ℕ → ℕ → ℕ → Bool
-heldBy d mask values rows columns n i j = cond (bit mask i j) (bit values i j) (xor (eqb (crossings rows columns n i j % 2) 1) (bit d i j))

@@ -1,10 +1,10 @@
 // The levels of a write, over sets of rows and columns held as bits of words.
-use grid_counters::LEVELS;
+use grid_sets::LEVELS;
 ghost use mathlib.Core.Path.{_≡_};
 ghost use mathlib.Core.Bool.{true, not, xor, cond, _&&_};
-ghost use Prim.Native.Nat.{ℕ, _^_, _<_, _≤_};
+ghost use Prim.Native.Nat.{ℕ, _*_, _^_, _<_, _≤_};
 ghost use lib.ListN.{length};
-ghost use Rattle.bits.specs.Bits.{has};
+ghost use Rattle.bits.specs.Bits.{num, has};
 ghost use Rattle.rdis.specs.Block.{faulty, faults as maskOnes};
 ghost use Rattle.rdis.specs.Levels.{taken, plan as planOf};
 ghost use Rattle.grid.specs.Steps.{blockOf, Rows, subgrid, Follows, Planned};
@@ -43,6 +43,14 @@ fn row_faults(data: &[u64], mask: &[u64], values: &[u64], s: Sub, wrong: bool, i
     }
 }
 
+// The set of line `i` alone, or of nothing.
+fn mark_if(t: bool, i: usize) -> u64
+    requires { ⌜ i < 64 ⌝ }
+    ensures { λ r. ⌜ r ≡ num t * 2 ^ i ⌝ }
+{
+    if t { 1 << i } else { 0 }
+}
+
 // One level: the rows and the columns of the subgrid that hold a wrong cell of it.
 fn take_level(data: &[u64], mask: &[u64], values: &[u64], s: Sub, wrong: bool) -> Sub
     requires { ⌜ Rows (now «data») (now mask) (now values) ⌝ }
@@ -54,7 +62,7 @@ fn take_level(data: &[u64], mask: &[u64], values: &[u64], s: Sub, wrong: bool) -
     while i < data.len() {
         let w = row_faults(data, mask, values, s, wrong, i);
         columns = w | columns;
-        rows = crate::sets::mark_if(w != 0, i) | rows;
+        rows = mark_if(w != 0, i) | rows;
         i += 1;
     }
     Sub { rows, columns }

@@ -1,7 +1,5 @@
 // Grid blocks: a grid of cells, one word a row, and a counter for each row and each column.
 mod levels;
-mod pattern;
-mod sets;
 
 use grid_promises::ReadAnswer;
 use grid_promises::WriteAnswer;
@@ -42,10 +40,13 @@ fn read_sized(columns: usize, k: usize, cells: &[u64], counters: &[u8], out: &mu
     if !grid_checks::within(cells, columns) {
         return BIT_PAST_END;
     }
-    let c = grid_counters::unpack(k, cells.len() + columns, counters);
-    let held = c.held; // an array in a field is lent by a variable
+    let c = grid_counters::unpack(k, cells.len(), columns, counters);
+    // An array in a field is lent by a variable.
+    let row_sets = c.rows;
+    let column_sets = c.columns;
+    // No counter is above K, so the first K pairs of sets say all of them.
     if c.number == ACCEPTED {
-        gridshow::show(columns, cells, &held, out);
+        grid_patterns::invert(cells, &row_sets, &column_sets, k, out);
     }
     c.number
 }
@@ -112,7 +113,8 @@ fn write_sized(
     // An array in a field is passed by a variable.
     let taken_rows = t.rows;
     let taken_columns = t.columns;
-    pattern::store(data, mask, values, taken_rows, taken_columns, t.used, cells);
+    // A stuck cell is wrong exactly where the levels invert it, so the inverted data has its stuck value there.
+    grid_patterns::invert(data, &taken_rows, &taken_columns, t.used, cells);
     grid_counters::pack(
         k,
         data.len(),

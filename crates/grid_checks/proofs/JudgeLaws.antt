@@ -2,18 +2,20 @@
 use mathlib.Core.Path.{_≡_, refl, sym, ap, _∙_}
 use mathlib.Core.Bool.{Bool, true, false, not, cond, _&&_, _||_}
 use mathlib.Core.List.{List}
-use mathlib.Core.Logic.{⊎-elim}
-use Prim.Native.Nat.{ℕ, _+_, _-_, _^_, _≤_, _<_, min}
+use mathlib.Core.Logic.{_⊎_, inl, inr}
+use Prim.Native.Nat.{ℕ, _+_, _*_, _%_, _^_, _≤_, _<_}
 use native.Mathlib.Nat.{lt-of-lt-of-le}
+use native.Mathlib.Numerals.{add-one}
 use native.Mathlib.Omega.{arith}
 use borrow.Author.Tests.{le-leb, lt-leb}
-use lib.Dec.{eqb, leb}
+use lib.Bits.{bitOr, or-lt, or-add-and, and-le-l, and-le-r}
+use lib.Dec.{eqb, leb, ltb}
 use lib.ListN.{length, getD}
 use lib.Pow.{pow-pos, pow-mono}
-use Rattle.bits.specs.Bits.{some, word}
-use Rattle.bits.proofs.TestLaws.{lt-or-le}
-use Rattle.bits.proofs.BoundLaws.{some-in, none-more}
-use Rattle.bits.proofs.BitLaws.{word-ones}
+use Rattle.bits.specs.Bits.{some, Below}
+use Rattle.bits.proofs.TestLaws.{lt-or-le, ltb-not}
+use Rattle.bits.proofs.BoundLaws.{some-none}
+use Rattle.bits.proofs.BitLaws.{one-shl}
 use Rattle.grid_promises.specs.Calls.{inRange, sized, past}
 use Rattle.grid_promises.proofs.RefusalLaws.{in-range}
 use Rattle.grid_counters.specs.Promises.{fit}
@@ -21,32 +23,39 @@ use Rattle.grid_checks.specs.Numbers.{judged}
 
 -- ---- a word with a bit past the last column
 
--- a word above the set of the n lowest bits has a bit past them, and only such a word
-module _ (n x : ℕ) (h : x < 2 ^ 64) where
-  pub reaches : word (min n 64) (λ _. true) < x → 2 ^ n ≤ x
-  reaches l =
-      ⊎-elim
-      (λ p. let e : min n 64 ≡ n = omega arith in omega (arith, rw e at l, word-ones n, pow-pos n))
-      (λ p. let e : min n 64 ≡ 64 = omega arith in omega (arith, rw e at l, word-ones 64))
-      (lt-or-le n 64)
+-- two words joined have such a bit exactly if one of them has
+or-reaches : (n a b : ℕ) → leb (2 ^ n) (bitOr a b) ≡ leb (2 ^ n) a || leb (2 ^ n) b
+or-reaches n a b = go (lt-or-le a (2 ^ n)) (lt-or-le b (2 ^ n))
+  where
+    go : (a < 2 ^ n) ⊎ (2 ^ n ≤ a) → (b < 2 ^ n) ⊎ (2 ^ n ≤ b) → leb (2 ^ n) (bitOr a b) ≡ leb (2 ^ n) a || leb (2 ^ n) b
+    go (inl h) (inl k) = rw (lt-leb (2 ^ n) a h, lt-leb (2 ^ n) b k) (lt-leb (2 ^ n) (bitOr a b) (or-lt n a b h k))
+    go (inl h) (inr k) = rw (lt-leb (2 ^ n) a h, le-leb (2 ^ n) b k) (le-leb (2 ^ n) (bitOr a b) (omega (arith, or-add-and a b, and-le-l a b)))
+    go (inr h) k = rw (le-leb (2 ^ n) a h) (le-leb (2 ^ n) (bitOr a b) (omega (arith, or-add-and a b, and-le-r a b)))
 
-  pub stays : (word (min n 64) (λ _. true) < x → ⊥) → x < 2 ^ n
-  stays l =
-      ⊎-elim
-      (λ p. let e : min n 64 ≡ n = omega arith in omega (arith, rw e at l, word-ones n, pow-pos n))
-      (λ p. lt-of-lt-of-le h (pow-mono {i = 64} {j = n} p))
-      (lt-or-le n 64)
+-- the words below i joined have one exactly if one of them has
+abbrev pub Joined : List ℕ → ℕ → ℕ → Type 0
+Joined ws i all = (n : ℕ) → leb (2 ^ n) all ≡ some i (λ k. leb (2 ^ n) (getD ws k 0))
 
-pub past-found : (n i : ℕ) (ws : List ℕ) → i < length ws → 2 ^ n ≤ getD ws i 0 → false ≡ not (past n ws)
+pub join-none : (ws : List ℕ) → Joined ws 0 0
+unfolding some
+join-none ws n = lt-leb (2 ^ n) 0 (pow-pos n)
+
+pub join-more : (ws : List ℕ) (i all : ℕ) → Joined ws i all → Joined ws (i + 1) (bitOr (getD ws i 0) all)
+unfolding some
+join-more ws i all h n = or-reaches n (getD ws i 0) all ∙ rw (add-one, h n)
+
+pub join-done : (ws : List ℕ) (i all : ℕ) → i ≡ length ws → Joined ws i all → (n : ℕ) → leb (2 ^ n) all ≡ past n ws
 unfolding past
-past-found n i ws l h = sym (ap not (some-in (length ws) (λ i. leb (2 ^ n) (getD ws i 0)) i l (le-leb (2 ^ n) (getD ws i 0) h)))
+join-done ws i all e h n = h n ∙ ap (λ k. some k (λ i. leb (2 ^ n) (getD ws i 0))) e
 
-pub past-more : (n i : ℕ) (ws : List ℕ) → some i (λ i. leb (2 ^ n) (getD ws i 0)) ≡ false → getD ws i 0 < 2 ^ n → some (i + 1) (λ i. leb (2 ^ n) (getD ws i 0)) ≡ false
-past-more n i ws h l = none-more i (λ i. leb (2 ^ n) (getD ws i 0)) h (lt-leb (2 ^ n) (getD ws i 0) l)
-
-pub past-none : (n i : ℕ) (ws : List ℕ) → i ≡ length ws → some i (λ i. leb (2 ^ n) (getD ws i 0)) ≡ false → true ≡ not (past n ws)
+-- where every bit has a column no word has one
+pub past-none : (n : ℕ) (ws : List ℕ) → 64 ≤ n → Below (2 ^ 64) ws → leb 64 n ≡ not (past n ws)
 unfolding past
-past-none n i ws e h = sym (ap not (ap (λ m. some m (λ i. leb (2 ^ n) (getD ws i 0))) (sym e) ∙ h))
+past-none n ws l h = le-leb 64 n l ∙ sym (ap not (some-none (length ws) (λ i. leb (2 ^ n) (getD ws i 0)) (λ i _. lt-leb (2 ^ n) (getD ws i 0) (lt-of-lt-of-le (h i) (pow-mono l)))))
+
+-- else the words joined are judged
+pub past-judged : (n all : ℕ) (ws : List ℕ) → n < 64 → leb (2 ^ n) all ≡ past n ws → ltb all (1 * 2 ^ n % 2 ^ 64) ≡ not (past n ws)
+past-judged n all ws l h = ap (ltb all) (one-shl n l) ∙ ltb-not all (2 ^ n) ∙ ap not h
 
 -- none of three is all of their negations
 pub none-of-three : (a b c : Bool) → not a && (not b && not c) ≡ not (a || (b || c))

@@ -1,12 +1,12 @@
 // What is judged before a block is worked on: numbers, lengths, and bits past the last column. Each function answers for every argument.
-use grid_counters::LINES;
+use grid_sets::LINES;
 use refusals::ACCEPTED;
 use refusals::OUT_OF_RANGE;
 use refusals::WRONG_LENGTH;
 ghost use mathlib.Core.Path.{_≡_};
-ghost use mathlib.Core.Bool.{true, not, _&&_, _||_};
-ghost use Prim.Native.Nat.{min};
-ghost use Rattle.bits.specs.Bits.{word};
+ghost use mathlib.Core.Bool.{not, _&&_, _||_};
+ghost use Prim.Native.Nat.{ℕ, _^_};
+ghost use lib.Dec.{leb};
 ghost use Rattle.grid_promises.specs.Calls.{between, inRange, past};
 ghost use Rattle.grid_checks.specs.Numbers.{judged, readJudged, writeJudged};
 
@@ -78,19 +78,24 @@ pub fn write_number(
     number(rows, columns, k, cells, counters, others)
 }
 
-// No word has a bit past the last column.
+// The OR of all words: it has a bit past a column exactly if a word has.
+fn joined(words: &[u64]) -> u64
+    ensures { λ r. ⌜ ((n : ℕ) → leb (2 ^ n) r ≡ past n (now (words .entry))) ⌝ }
+{
+    let mut all = 0;
+    let mut i = 0;
+    while i < words.len() {
+        all = words[i] | all;
+        i += 1;
+    }
+    all
+}
+
+// No word has a bit past the last column. Where every bit has a column, none is looked at.
 pub fn within(words: &[u64], columns: usize) -> bool
     ensures { λ r. ⌜ r ≡ not (past columns (now (words .entry))) ⌝ }
 {
-    let most = words::low_bits(columns);
-    let mut i = 0;
-    while i < words.len() {
-        if words[i] > most {
-            return false;
-        }
-        i += 1;
-    }
-    true
+    columns >= words::BITS || joined(words) < 1 << columns
 }
 
 // None of the three has such a word.

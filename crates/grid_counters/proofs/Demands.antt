@@ -1,43 +1,53 @@
 -- What was written is read back, and no second answer meets a promise. Assumes nothing.
-use Prim.Native.Nat.{_+_, suc}
+use Prim.Native.Nat.{suc, _+_}
 use mathlib.Core.Path.{_≡_, refl, sym, ap, _∙_}
 use mathlib.Core.Bool.{Bool, true, false}
 use native.Mathlib.Omega.{arith}
-use borrow.Author.Tests.{eq-eqb, le-ltb}
+use borrow.Author.Tests.{le-ltb}
 use lib.ListN.{length}
 use Rattle.bits.proofs.BoundLaws.{some-none}
 use Rattle.bits.proofs.TestLaws.{clash}
-use Rattle.rdis.specs.Packing.{width, bytesFor, inOrder, counter, above}
+use Rattle.rdis.specs.Packing.{width, inOrder, counter, rowCounter, columnCounter, above}
 use Rattle.rdis.specs.Theorems.{Packs}
-use Rattle.rdis.proofs.PackingLaws.{packed-only, counter-packed, length-in-order, in-order-below}
-use Rattle.grid_counters.specs.Promises.{fit, unpackNumber, times, packable, ReadsBack, OneUnpack, OnePack}
-use Rattle.grid_counters.proofs.PromiseLaws.{has-room, fit-few, times-few, counters-fit}
+use Rattle.rdis.proofs.PackingLaws.{packed-only, counter-packed, counters-back, length-in-order, in-order-below}
+use Rattle.grid_sets.specs.Sets.{times}
+use Rattle.grid_sets.proofs.SetLaws.{sets-ext}
+use Rattle.grid_counters.specs.Promises.{roomy, unpackNumber, packable, ReadsBack, OneUnpack, OnePack}
+use Rattle.grid_counters.proofs.PromiseLaws.{packs, is-roomy, times-few, counters-fit}
 
 pub reads-back : ReadsBack
 unfolding unpackNumber above
-reads-back k m n used rows columns before after few room p =
-    let r = has-room k m n used (length before) room in
-    let cs = inOrder m n (times rows used) (times columns used) in
-    let below = counters-fit k m n used rows columns (r .bits) in
-    let long = length-in-order m n (times rows used) (times columns used) in
-    let q : Packs (width k) (m + n) cs after = packed-only (width k) (m + n) cs after long below .1 (p .bytes room) in
-    let fits : fit k (m + n) (length after) ≡ true =
-    sym (fit-few k (m + n) (length after) (omega (arith, r .rows, r .columns))) ∙ eq-eqb (length after) (bytesFor (width k) (m + n)) (q .size) in
-    let low = in-order-below m n (times rows used) (times columns used) (suc used) (omega arith) (λ i _. omega (arith, times-few rows used i)) (λ j _. omega (arith, times-few columns used j)) in
-    let none = some-none (m + n) _ (λ t l.
-    le-ltb k (counter (width k) after t) (omega (arith, low t, ap (λ bs. counter (width k) bs t) (p .bytes room) ∙ counter-packed (width k) t cs below (omega (arith, long))))) in
-    record { number = sym (rw (fits, q .spare, none)); nothing = λ h. clash fits h; counters = λ _. rw (q .back) }
+reads-back k m n used rows columns before after few fits p =
+    let (bits, room) = packs k m n used (length before) fits in
+    let r = times rows used in
+    let c = times columns used in
+    let cs = inOrder m n r c in
+    let long = length-in-order m n r c in
+    let below = counters-fit k m n used rows columns bits in
+    let is = p .bytes fits in
+    let q : Packs (width k) (m + n) cs after = packed-only (width k) (m + n) cs after long below .1 is in
+    let held : roomy k m n (length after) ≡ true = is-roomy k m n (length after) (record { rows = room .rows; columns = room .columns; size = q .size }) in
+    let least = in-order-below m n r c (suc used) (omega arith) (λ i _. omega (arith, times-few rows used i)) (λ j _. omega (arith, times-few columns used j)) in
+    let none = some-none (m + n) _ (λ t l. le-ltb k (counter (width k) after t) (omega (arith, least t, ap (λ bs. counter (width k) bs t) is ∙ counter-packed (width k) t cs below (omega (arith, long))))) in
+    let (x, y) = counters-back (width k) m n r c (λ i _. omega (arith, times-few rows used i)) (λ j _. omega (arith, times-few columns used j)) in
+    record {
+      number = sym (rw (held, q .spare, none));
+      noRows = λ h. clash held h;
+      noColumns = λ h. clash held h;
+      rowSets = λ _. sets-ext m r (rowCounter (width k) after) (λ i l. sym (ap (λ bs. rowCounter (width k) bs i) is ∙ x i l));
+      columnSets = λ _. sets-ext n c (columnCounter (width k) m after) (λ j l. sym (ap (λ bs. columnCounter (width k) m bs j) is ∙ y j l));
+    }
 
 either : {A : Type 0} (t : Bool) → (t ≡ true → A) → (t ≡ false → A) → A
 either true f g = f refl
 either false f g = g refl
 
 pub one-unpack : OneUnpack
-one-unpack k n bs c c′ p q =
+one-unpack k m n bs c c′ p q =
     let same : c .number ≡ c′ .number = p .number ∙ sym (q .number) in
-    let held : c .held ≡ c′ .held =
-    either (fit k n (length bs)) (λ h. p .counters h ∙ sym (q .counters h)) (λ h. p .nothing h ∙ sym (q .nothing h)) in
-    λ i. record { number = same i; held = held i }
+    let rows : c .rows ≡ c′ .rows = either (roomy k m n (length bs)) (λ h. p .rowSets h ∙ sym (q .rowSets h)) (λ h. p .noRows h ∙ sym (q .noRows h)) in
+    let columns : c .columns ≡ c′ .columns = either (roomy k m n (length bs)) (λ h. p .columnSets h ∙ sym (q .columnSets h)) (λ h. p .noColumns h ∙ sym (q .noColumns h)) in
+    λ i. record { number = same i; rows = rows i; columns = columns i }
 
 pub one-pack : OnePack
 one-pack k m n used rows columns before after after′ p q =

@@ -1,21 +1,20 @@
--- Laws of the loop that rewrites digits of one width as digits of another, once over both widths. Assumes nothing.
+-- Laws of the loop that rewrites digits of any width as bytes. Assumes nothing.
 use mathlib.Core.Path.{_≡_, refl, sym, ap, _∙_}
-use mathlib.Core.Bool.{Bool, true, false, not}
+use mathlib.Core.Bool.{Bool, true, false}
 use mathlib.Core.List.{List, [], _∷_}
 use Prim.Native.Nat.{ℕ, zero, suc, _+_, _*_, _/_, _%_, _^_, _-_, _<_, _≤_}
-use native.Mathlib.Nat.{pow-zero, pow-suc, mod-lt, div-lt-iff-lt-mul, lt-of-lt-of-le, mul-le-mul, mul-assoc, mul-add-mod-self-right, zero-mul, add-mul, one-mul, div-eq-of-lt, sub-zero, zero-sub, suc-sub-suc, mul-one, mul-le-mul-right, div-add-mod}
+use native.Mathlib.Nat.{pow-zero, pow-suc, div-lt-iff-lt-mul, lt-of-lt-of-le, mul-le-mul, mul-assoc, mul-add-mod-self-right, zero-mul, add-mul, one-mul, div-eq-of-lt, mul-one, mul-le-mul-right, div-add-mod}
 use native.Mathlib.Omega.{arith}
 use native.Mathlib.Numerals.{add-one}
 use native.Mathlib.Decide.{decLt}
 use borrow.Author.Tests.{eq-eqb, ne-eqb, lt-ltb, le-ltb}
 use lib.Dec.{eqb, leb, ltb}
-use lib.ListN.{length, getD, take, drop, set, replicate, drop-of-length-le}
+use lib.ListN.{length, getD, take, drop, set, drop-of-length-le}
 use lib.Pow.{pow-pos, pow-mono, pow-add, shr-shr, field, shl-exact, shl-lt}
-use lib.Seq.{take-suc-set, getD-drop}
-use Rattle.bits.specs.Bits.{some, number, digits, Below}
-use Rattle.bits.proofs.BoundLaws.{some-in, none-more, list-getD}
-use Rattle.bits.proofs.DigitLaws.{number-drop, number-step, pow-mul, digits-more, length-digits, getD-digits}
-use Rattle.rdis.specs.Packing.{width, bytesFor, counter, unpacked, spareClear}
+use lib.Seq.{take-suc-set, take-all, getD-drop}
+use Rattle.bits.specs.Bits.{number, digits, Below}
+use Rattle.bits.proofs.DigitLaws.{number-drop, number-step, pow-mul, digits-more}
+use Rattle.rdis.specs.Packing.{width, bytesFor, packed, spareClear}
 
 -- ---- small numbers
 
@@ -25,9 +24,6 @@ small w t h k = mul-le-mul h k
 pub at-least : (a j : ℕ) → 0 < a → j ≤ a * j
 at-least a j h = rw one-mul at (mul-le-mul-right j h)
 
-pub mod-small : (x w : ℕ) → w ≤ 8 → x % 2 ^ w < 256
-mod-small x w h = lt-of-lt-of-le (mod-lt x (pow-pos w)) (pow-mono {j = 8} h)
-
 pub shl-byte : (x k : ℕ) → x < 256 → k < 16 → (x * 2 ^ k % 2 ^ 64 ≡ x * 2 ^ k) × (x * 2 ^ k % 2 ^ 64 < 16777216)
 shl-byte x k hx hk =
     let e : x * 2 ^ k % 2 ^ 64 ≡ x * 2 ^ k = shl-exact 8 k 64 hx (omega arith) in
@@ -35,7 +31,7 @@ shl-byte x k hx hk =
 
 -- ---- widths
 
-width-by : (k : ℕ) (t : Bool) → leb k 1 ≡ t → (1 ≤ width k) × (width k ≤ 8) × (2 ^ width k ≤ 8)
+width-by : (k : ℕ) (t : Bool) → leb k 1 ≡ t → (1 ≤ width k) × (width k ≤ 2) × (2 ^ width k ≤ 4)
 unfolding width
 width-by k true e = rw e (omega arith, omega arith, omega arith)
 width-by k false e = rw e (omega arith, omega arith, omega arith)
@@ -43,10 +39,10 @@ width-by k false e = rw e (omega arith, omega arith, omega arith)
 pub width-some : (k : ℕ) → 1 ≤ width k
 width-some k = width-by k (leb k 1) refl .0
 
-pub width-few : (k : ℕ) → width k ≤ 8
+pub width-few : (k : ℕ) → width k ≤ 2
 width-few k = width-by k (leb k 1) refl .1
 
-pub bits-few : (k : ℕ) → 2 ^ width k ≤ 8
+pub bits-few : (k : ℕ) → 2 ^ width k ≤ 4
 bits-few k = width-by k (leb k 1) refl .2
 
 -- ---- a window of digits
@@ -100,16 +96,9 @@ pub digits-step : (k t x v : ℕ) (dst : List ℕ) → t < length dst → take t
     → take (t + 1) (set dst t v) ≡ digits (2 ^ k) (t + 1) x
 digits-step k t x v dst l h e = rw add-one (take-suc-set dst t v l ∙ rw (h, e, ← pow-mul k t) (sym (digits-more (2 ^ k) t x)))
 
-pub drop-zeros : (n m : ℕ) → drop {A = ℕ} n (replicate m 0) ≡ replicate (m - n) 0
-drop-zeros zero m = rw sub-zero
-drop-zeros (suc n) zero = rw zero-sub
-drop-zeros (suc n) (suc m) = rw suc-sub-suc (drop-zeros n m)
-
--- counters are the digits of the number that their bytes make
-pub digits-unpacked : (w n : ℕ) (bs : List ℕ) → digits (2 ^ w) n (number 256 bs) ≡ unpacked w n bs
-unfolding unpacked counter
-digits-unpacked w n bs =
-    list-getD n (counter w bs) 0 (digits (2 ^ w) n (number 256 bs)) (length-digits (2 ^ w) n (number 256 bs)) (λ i h. getD-digits (2 ^ w) n (number 256 bs) i h ∙ rw pow-mul)
+pub packed-done : (w t : ℕ) (cs out : List ℕ) → length out ≡ bytesFor w (length cs) → t ≡ length out → take t out ≡ digits 256 t (number (2 ^ w) cs) → out ≡ packed w cs
+unfolding packed
+packed-done w t cs out l e h = sym (take-all t out (omega arith)) ∙ h ∙ ap (λ n. digits 256 n (number (2 ^ w) cs)) (e ∙ l)
 
 -- ---- the spare bits
 
@@ -134,14 +123,3 @@ spare-read w n bs l h =
 
     last : number 256 (drop (w * n / 8) bs) ≡ getD bs (w * n / 8) 0
     last = omega (arith, none, number-step 256 (w * n / 8) bs)
-
--- ---- counters above K
-
-pub above-found : (n k t : ℕ) (cs : List ℕ) → t < n → k < getD cs t 0 → false ≡ not (some n (λ t. ltb k (getD cs t 0)))
-above-found n k t cs l h = sym (ap not (some-in n (λ t. ltb k (getD cs t 0)) t l (lt-ltb k (getD cs t 0) h)))
-
-pub above-more : (k t : ℕ) (cs : List ℕ) → some t (λ t. ltb k (getD cs t 0)) ≡ false → (k < getD cs t 0 → ⊥) → some (t + 1) (λ t. ltb k (getD cs t 0)) ≡ false
-above-more k t cs h l = none-more t (λ t. ltb k (getD cs t 0)) h (le-ltb k (getD cs t 0) (omega arith))
-
-pub above-none : (n k t : ℕ) (cs : List ℕ) → t ≡ n → some t (λ t. ltb k (getD cs t 0)) ≡ false → true ≡ not (some n (λ t. ltb k (getD cs t 0)))
-above-none n k t cs e h = sym (ap not (ap (λ m. some m (λ t. ltb k (getD cs t 0))) (sym e) ∙ h))

@@ -1,20 +1,24 @@
--- What a code proof cites at each return: from the tests' values there to the whole promise; and that no second answer meets a promise. Assumes nothing.
-use Prim.Native.Nat.{ℕ, _+_, _-_, _^_, _<_, _≤_}
-use mathlib.Core.Path.{_≡_, refl, sym, ap, _∙_}
+-- What a code proof cites at each return: from the tests' values there to the whole promise. Assumes nothing.
+use Prim.Native.Nat.{ℕ, _+_, _^_, _<_, _≤_}
+use mathlib.Core.Path.{_≡_, refl, sym, _∙_}
 use mathlib.Core.Bool.{Bool, true, false, not, cond, _&&_}
-use mathlib.Core.List.{List, _++_}
+use mathlib.Core.List.{List}
+use mathlib.Core.Logic.{⊎-elim}
+use native.Mathlib.Nat.{mod-lt, lt-of-lt-of-le}
 use native.Mathlib.Omega.{arith}
-use borrow.Author.Tests.{leb-true, ltb-true, eqb-true, eq-eqb, le-leb, lt-leb, lt-ltb}
+use borrow.Author.Tests.{leb-true, ltb-true, eqb-true, eq-eqb, le-leb, lt-leb, lt-ltb, le-ltb}
 use lib.Dec.{eqb, leb, ltb}
-use lib.ListN.{length, getD, replicate, List·getD-append}
+use lib.ListN.{length, getD, replicate}
 use lib.Pow.{pow-pos}
-use Rattle.bits.specs.Bits.{some, has, Below}
-use Rattle.bits.proofs.TestLaws.{clash, and-left, and-right}
-use Rattle.bits.proofs.BoundLaws.{some-ext, length-list, sum-num-le}
-use Rattle.rdis.specs.Packing.{width, bytesFor, inOrder, unpacked, spareClear, above}
-use Rattle.rdis.proofs.PackingLaws.{counter-unpacked, in-order-below}
+use Rattle.bits.specs.Bits.{has, number, Below}
+use Rattle.bits.proofs.TestLaws.{clash, and-in, and-left, and-right, lt-or-le}
+use Rattle.bits.proofs.BoundLaws.{some-none, sum-num-le}
+use Rattle.rdis.specs.Packing.{width, bytesFor, inOrder, counter, rowCounter, columnCounter, spareClear, above}
+use Rattle.rdis.proofs.PackingLaws.{in-order-below}
+use Rattle.grid_sets.specs.Sets.{setsOf, times, someLine}
+use Rattle.grid_sets.proofs.SetLaws.{some-line}
 use Rattle.grid_counters.proofs.PackLaws.{bits-few}
-use Rattle.grid_counters.specs.Promises.{fit, unpackNumber, Unpack, times, few, packable}
+use Rattle.grid_counters.specs.Promises.{fit, roomy, unpackNumber, Unpack, packable}
 
 -- ---- lengths
 
@@ -26,75 +30,86 @@ pub fit-few : (k n bytes : ℕ) → n ≤ 128 → eqb bytes (bytesFor (width k) 
 unfolding fit
 fit-few k n bytes h = rw (le-leb n 128 h)
 
-pub fit-lengths : (k n bytes : ℕ) → fit k n bytes ≡ true → (n ≤ 128) × (bytes ≡ bytesFor (width k) n)
+fit-length : (k n bytes : ℕ) → fit k n bytes ≡ true → bytes ≡ bytesFor (width k) n
 unfolding fit
-fit-lengths k n bytes h = (leb-true n 128 (and-left _ _ h), eqb-true bytes (bytesFor (width k) n) (and-right (leb n 128) _ h))
+fit-length k n bytes h = eqb-true bytes (bytesFor (width k) n) (and-right (leb n 128) _ h)
 
--- ---- from bytes to counters
+-- there are few lines, and as many bytes as their counters take
+pub record Room (k m n bytes : ℕ) : Type 0 where
+  pub rows : m ≤ 64
+  pub columns : n ≤ 64
+  pub size : bytes ≡ bytesFor (width k) (m + n)
 
-pub not-fit : (k n : ℕ) (bs : List ℕ) → fit k n (length bs) ≡ false → Unpack k n bs (record { number = 2; held = replicate 128 0 })
+pub lines-few : (m n : ℕ) → leb m 64 && leb n 64 ≡ true → (m ≤ 64) × (n ≤ 64)
+lines-few m n h = (leb-true m 64 (and-left _ _ h), leb-true n 64 (and-right (leb m 64) _ h))
+
+pub many-lines : (k m n bytes : ℕ) → leb m 64 && leb n 64 ≡ false → false ≡ roomy k m n bytes
+unfolding roomy
+many-lines k m n bytes h = rw h
+
+pub few-lines : (k m n bytes : ℕ) → leb m 64 && leb n 64 ≡ true → fit k (m + n) bytes ≡ roomy k m n bytes
+unfolding roomy
+few-lines k m n bytes h = rw h
+
+pub has-room : (k m n bytes : ℕ) → roomy k m n bytes ≡ true → Room k m n bytes
+unfolding roomy
+has-room k m n bytes h =
+    let (hm, hn) = lines-few m n (and-left _ _ h) in
+    record { rows = hm; columns = hn; size = fit-length k (m + n) bytes (and-right (leb m 64 && leb n 64) _ h) }
+
+pub is-roomy : (k m n bytes : ℕ) → Room k m n bytes → roomy k m n bytes ≡ true
+is-roomy k m n bytes r =
+    sym (few-lines k m n bytes (and-in (le-leb m 64 (r .rows)) (le-leb n 64 (r .columns))))
+    ∙ sym (fit-few k (m + n) bytes (omega (arith, r .rows, r .columns))) ∙ eq-eqb bytes (bytesFor (width k) (m + n)) (r .size)
+
+-- ---- from bytes to sets
+
+pub not-roomy : (k m n : ℕ) (bs : List ℕ) → roomy k m n (length bs) ≡ false → Unpack k m n bs (record { number = 2; rows = replicate 8 0; columns = replicate 8 0 })
 unfolding unpackNumber
-not-fit k n bs h = record { number = rw h; nothing = λ _. refl; counters = λ e. clash e h }
+not-roomy k m n bs h = record { number = rw h; noRows = λ _. refl; noColumns = λ _. refl; rowSets = λ e. clash e h; columnSets = λ e. clash e h }
 
-by-tests : (s a : Bool) → cond {A = ℕ} s (cond (not a) 0 4) 3 ≡ cond (not s) 3 (cond a 4 0)
-by-tests true true = refl
-by-tests true false = refl
+pub counter-few : (k : ℕ) (bs : List ℕ) (t : ℕ) → counter (width k) bs t < 4
+unfolding counter
+counter-few k bs t = lt-of-lt-of-le (mod-lt _ (pow-pos (width k))) (bits-few k)
+
+-- a counter above k is a line in the sets numbered k
+above-sets : (k m n : ℕ) (bs : List ℕ) → (ltb k 8 && someLine (setsOf m (rowCounter (width k) bs)) (setsOf n (columnCounter (width k) m bs)) k) ≡ above k (m + n) bs
+unfolding above
+above-sets k m n bs =
+    ⊎-elim
+    (λ l. rw (lt-ltb k 8 l) (some-line m n k (counter (width k) bs) l))
+    (λ l. rw (le-ltb k 8 l) (sym (some-none (m + n) _ (λ t _. le-ltb k (counter (width k) bs t) (omega (arith, counter-few k bs t))))))
+    (lt-or-le k 8)
+
+by-tests : (s a : Bool) → cond {A = ℕ} s (cond a 4 0) 3 ≡ cond (not s) 3 (cond a 4 0)
+by-tests true a = refl
 by-tests false a = refl
 
-module _ (k n : ℕ) (bs held : List ℕ) (fits : fit k n (length bs) ≡ true) (e : held ≡ unpacked (width k) n bs ++ replicate (128 - n) 0) where
-  above-is : some n (λ t. ltb k (getD held t 0)) ≡ above k n bs
-  unfolding above unpacked
-  above-is =
-      some-ext n _ _ (λ t l. ap (ltb k) (rw e (List·getD-append (unpacked (width k) n bs) (replicate (128 - n) 0) 0 t (rw length-list l) ∙ counter-unpacked (width k) n t bs l)))
-
-  pub judged : (clear low : Bool) (x : ℕ) → clear ≡ spareClear (width k) n bs → low ≡ not (some n (λ t. ltb k (getD held t 0))) → x ≡ cond clear (cond low 0 4) 3
-      → Unpack k n bs (record { number = x; held = held })
-  unfolding unpackNumber
-  judged clear low x p q r = record {
-    number = r ∙ rw (p, q, above-is, fits) (by-tests (spareClear (width k) n bs) (above k n bs));
-    nothing = λ h. clash fits h;
-    counters = λ _. e;
-  }
+pub judged : (k m n : ℕ) (bs r c : List ℕ) → roomy k m n (length bs) ≡ true → r ≡ setsOf m (rowCounter (width k) bs) → c ≡ setsOf n (columnCounter (width k) m bs)
+    → (clear high : Bool) (x : ℕ) → clear ≡ spareClear (width k) (m + n) bs → high ≡ (ltb k 8 && someLine r c k) → x ≡ cond clear (cond high 4 0) 3
+    → Unpack k m n bs (record { number = x; rows = r; columns = c })
+unfolding unpackNumber
+judged k m n bs r c room er ec clear high x p q e = record {
+  number = e ∙ rw (p, q, er, ec, above-sets k m n bs, room) (by-tests (spareClear (width k) (m + n) bs) (above k (m + n) bs));
+  noRows = λ h. clash room h;
+  noColumns = λ h. clash room h;
+  rowSets = λ _. er;
+  columnSets = λ _. ec;
+}
 
 -- ---- from sets to bytes
 
-pub record Room (k m n used bytes : ℕ) : Type 0 where
-  pub rows : m ≤ 64
-  pub columns : n ≤ 64
-  pub bits : used < 2 ^ width k
-  pub size : bytes ≡ bytesFor (width k) (m + n)
-
-pub not-few : (k m n used bytes : ℕ) → few m n ≡ false → false ≡ packable k m n used bytes
+pub can-pack : (k m n used bytes : ℕ) → used < 2 ^ width k → Room k m n bytes → packable k m n used bytes ≡ true
 unfolding packable
-not-few k m n used bytes h = rw h
+can-pack k m n used bytes h r = and-in (lt-ltb used (2 ^ width k) h) (is-roomy k m n bytes r)
 
-pub tested : (k m n used bytes : ℕ) → few m n ≡ true → ltb used (2 ^ width k) && fit k (m + n) bytes ≡ packable k m n used bytes
+pub packs : (k m n used bytes : ℕ) → packable k m n used bytes ≡ true → (used < 2 ^ width k) × Room k m n bytes
 unfolding packable
-tested k m n used bytes h = rw h
-
-pub lines-few : (m n : ℕ) → few m n ≡ true → (m ≤ 64) × (n ≤ 64)
-lines-few m n h = (leb-true m 64 (and-left _ _ h), leb-true n 64 (and-right (leb m 64) _ h))
+packs k m n used bytes h = (ltb-true used (2 ^ width k) (and-left _ _ h), has-room k m n bytes (and-right (ltb used (2 ^ width k)) _ h))
 
 -- what a counter's bits hold is less than there is room for
 pub levels-few : (k used : ℕ) → used < 2 ^ width k → used ≤ 8
 levels-few k used h = omega (arith, bits-few k)
-
-pub has-room : (k m n used bytes : ℕ) → packable k m n used bytes ≡ true → Room k m n used bytes
-unfolding packable
-has-room k m n used bytes h =
-    let (hm, hn) = lines-few m n (and-left _ _ h) in
-    let h₁ = and-right (few m n) _ h in
-    record {
-      rows = hm;
-      columns = hn;
-      bits = ltb-true used (2 ^ width k) (and-left _ _ h₁);
-      size = fit-lengths k (m + n) bytes (and-right (ltb used (2 ^ width k)) _ h₁) .1;
-    }
-
-pub can-pack : (k m n used bytes : ℕ) → Room k m n used bytes → packable k m n used bytes ≡ true
-can-pack k m n used bytes r =
-    sym (tested k m n used bytes (rw (le-leb m 64 (r .rows)) (le-leb n 64 (r .columns))))
-    ∙ rw (lt-ltb used (2 ^ width k) (r .bits)) (sym (fit-few k (m + n) bytes (omega (arith, r .rows, r .columns))) ∙ eq-eqb bytes (bytesFor (width k) (m + n)) (r .size))
 
 -- no counter is above the number of levels
 pub times-few : (sets : List ℕ) (n i : ℕ) → times sets n i ≤ n

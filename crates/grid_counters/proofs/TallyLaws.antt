@@ -10,7 +10,7 @@ use Rattle.bits.specs.Bits.{sum, has, list}
 use Rattle.bits.proofs.BoundLaws.{length-list}
 use Rattle.bits.proofs.TestLaws.{num-eqb}
 use Rattle.rdis.specs.Packing.{inOrder}
-use Rattle.grid_counters.specs.Promises.{times}
+use Rattle.grid_sets.specs.Sets.{times}
 
 pub times-none : (sets : List ℕ) (i : ℕ) → 0 ≡ times sets 0 i
 unfolding times sum

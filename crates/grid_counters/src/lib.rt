@@ -1,26 +1,26 @@
 // A block's counters in bytes: how many bytes they take, which counters bytes hold, and the bytes of the counters of levels.
 mod packing;
+mod planes;
 mod tally;
 
+use grid_sets::LEVELS;
+use grid_sets::LINES;
 use refusals::ACCEPTED;
 use refusals::BIT_PAST_END;
 use refusals::MALFORMED;
 use refusals::WRONG_LENGTH;
 ghost use mathlib.Core.Path.{_≡_};
 ghost use mathlib.Core.Bool.{cond};
-ghost use Rattle.grid_counters.specs.Promises.{fit, packable as isPackable, Unpack, Pack};
+ghost use Rattle.grid_counters.specs.Promises.{fit, roomy as isRoomy, packable as isPackable, Unpack, Pack};
 
 // A block has at most so many counters: one for each of 64 rows and 64 columns.
 pub const COUNTERS: usize = 128;
-// A block has at most so many rows, and so many columns.
-pub const LINES: usize = 64;
-// There is room for the sets of so many levels, so that a larger K changes no shape.
-pub const LEVELS: usize = 8;
 
-// What bytes hold: 0 or the number of the refusal, and the counters, with 0 after them.
+// What bytes hold: 0 or the number of the refusal, and the sets of the rows' counters and of the columns'. Set s has the lines whose counter is above s.
 pub struct Counters {
     pub number: usize,
-    pub held: [u8; COUNTERS],
+    pub rows: [u64; LEVELS],
+    pub columns: [u64; LEVELS],
 }
 
 // Whether so many bytes are what `count` counters take. Their number is tested first: the bits of more might overflow.
@@ -33,43 +33,58 @@ pub fn fits(k: usize, count: usize, bytes: usize) -> bool
     bytes == packing::bytes_for(packing::width(k), count)
 }
 
-// The refusal of bytes of the right length, the lowest that applies: 3 for a spare bit that is set, 4 for a counter above K.
-fn refusal(clear: bool, low: bool) -> usize
-    ensures { λ r. ⌜ r ≡ cond clear (cond low 0 4) 3 ⌝ }
-{
-    if !clear {
-        return BIT_PAST_END;
-    }
-    if low { ACCEPTED } else { MALFORMED }
-}
-
-// The `count` counters that bytes hold, judged. They are handed out refused or not, but for bytes of a wrong length, which hold none.
-pub fn unpack(k: usize, count: usize, bytes: &[u8]) -> Counters
-    ensures { λ r. ⌜ Unpack k count (now (bytes .entry)) r ⌝ }
-{
-    if !fits(k, count, bytes.len()) {
-        return Counters {
-            number: WRONG_LENGTH,
-            held: [0u8; COUNTERS],
-        };
-    }
-    let width = packing::width(k);
-    let held = packing::unpack(bytes, width, count);
-    let number = refusal(
-        packing::spare_clear(bytes, width, count),
-        packing::at_most(&held, count, k),
-    );
-    Counters { number, held }
-}
-
-// Whether there is room for the counters, and a counter's bits hold the number of the levels. Sizes first: `rows + columns` of any might overflow.
-fn packable(k: usize, rows: usize, columns: usize, used: usize, bytes: usize) -> bool
-    ensures { λ r. ⌜ r ≡ isPackable k rows columns used bytes ⌝ }
+// Whether so many bytes are what the counters of these lines take. Sizes first: `rows + columns` of any might overflow.
+fn roomy(k: usize, rows: usize, columns: usize, bytes: usize) -> bool
+    ensures { λ r. ⌜ r ≡ isRoomy k rows columns bytes ⌝ }
 {
     if !((rows <= LINES) & (columns <= LINES)) {
         return false;
     }
-    (used < 1 << packing::width(k)) & fits(k, rows + columns, bytes)
+    fits(k, rows + columns, bytes)
+}
+
+// The refusal of bytes of the right length, the lowest that applies: 3 for a spare bit that is set, 4 for a counter above K.
+fn refusal(clear: bool, above: bool) -> usize
+    ensures { λ r. ⌜ r ≡ cond clear (cond above 4 0) 3 ⌝ }
+{
+    if !clear {
+        return BIT_PAST_END;
+    }
+    if above { MALFORMED } else { ACCEPTED }
+}
+
+// The counters that bytes hold, as sets, judged. They are handed out refused or not, but for bytes of a wrong length, which hold none.
+pub fn unpack(k: usize, rows: usize, columns: usize, bytes: &[u8]) -> Counters
+    ensures { λ r. ⌜ Unpack k rows columns (now (bytes .entry)) r ⌝ }
+{
+    if !roomy(k, rows, columns, bytes.len()) {
+        return Counters {
+            number: WRONG_LENGTH,
+            rows: [0u64; LEVELS],
+            columns: [0u64; LEVELS],
+        };
+    }
+    let width = packing::width(k);
+    let first = planes::planes_from(bytes, width, 0);
+    let second = planes::planes_from(bytes, width, 64);
+    let r = planes::sets(first, second, 0, rows);
+    let c = planes::sets(first, second, rows, columns);
+    let number = refusal(
+        packing::spare_clear(bytes, width, rows + columns),
+        planes::above(&r, &c, k),
+    );
+    Counters {
+        number,
+        rows: r,
+        columns: c,
+    }
+}
+
+// Whether a counter's bits hold the number of the levels, and there is room for the counters.
+fn packable(k: usize, rows: usize, columns: usize, used: usize, bytes: usize) -> bool
+    ensures { λ r. ⌜ r ≡ isPackable k rows columns used bytes ⌝ }
+{
+    (used < 1 << packing::width(k)) & roomy(k, rows, columns, bytes)
 }
 
 // Writes the counters of the levels that took these sets of rows and of columns: how many took each row, then each column.

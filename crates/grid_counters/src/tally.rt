@@ -1,12 +1,12 @@
 // The counters of levels: how many of the sets that the levels took have each row and each column.
 use crate::COUNTERS;
-use crate::LEVELS;
+use grid_sets::LEVELS;
 ghost use mathlib.Core.Path.{_≡_};
 ghost use Prim.Native.Nat.{_+_, _<_, _≤_};
 ghost use lib.ListN.{length, take};
 ghost use Rattle.bits.specs.Bits.{list};
 ghost use Rattle.rdis.specs.Packing.{inOrder};
-ghost use Rattle.grid_counters.specs.Promises.{times as timesIn};
+ghost use Rattle.grid_sets.specs.Sets.{times as timesIn};
 
 // How many of the first `used` sets have `i`.
 fn times(sets: &[u64; LEVELS], used: usize, i: usize) -> u8

@@ -2,17 +2,10 @@ use borrow.Author.Needs.{needs}
 use borrow.Author.Tests.{not-true, not-false}
 use mathlib.Core.Path.{_≡_, sym, _∙_}
 use mathlib.Core.Bool.{false}
-use native.Mathlib.Omega.{arith}
-use lib.ListN.{length}
 use Rattle.grid_promises.specs.Calls.{past}
-use Rattle.grid_promises.specs.Refusals.{InRange}
-use Rattle.grid_promises.proofs.RefusalLaws.{in-range}
 use Rattle.grid.proofs.Returns.{read-past, read-refused, accepted-read}
 use Rattle.grid.proofs.read_sized.Statement.{statement}
 use Rattle.grid.proofs.read_sized.Tie as tie
-
-range : (s : tie.Start) → InRange (length (s .args .cells .now)) (s .args .columns) (s .args .k)
-range s = in-range (length (s .args .cells .now)) (s .args .columns) (s .args .k) .0 (s .pre .ranges)
 
 -- where no cell is past the last column
 abbrev begin : tie.Else1 → tie.Start
@@ -32,25 +25,21 @@ read-sized-spec =
     let s = c .before .before .before .before .before in
     let a = s .args in
     read-past (a .columns) (a .k) (a .cells .now) (a .counters .now) (a .out .now) (s .pre) (not-false _ (sym (c .before .within .ensures) ∙ not-true _ (c .if1 .taken))))
-    -- add-unpack
-    (λ c. let r = range (begin c) in omega (arith, r .rows .1, r .columns .1))
     -- unpack-requires
     (λ c κs. search needs)
-    -- show-requires
+    -- invert-requires
     (λ c κs. search needs)
     -- same-length
     (λ c. search needs)
     -- returns-2
     (λ c.
-    let e = c .before .before .before .before .before .before .before .before .before in
-    let s = begin e in
+    let u = c .before .before .before .before .before .before .before .before .before .before in
+    let s = begin (u .before) in
     let a = s .args in
-    let u = c .before .before .before .before .before .before .before .before .unpack in
-    accepted-read (a .columns) (a .k) (a .cells .now) (a .counters .now) (a .out .now) (s .pre) (inside e) (u .result) (u .ensures) _ (c .before .before .before .before .before .if2 .taken) (c .before .before .show .ensures))
+    accepted-read (a .columns) (a .k) (a .cells .now) (a .counters .now) (a .out .now) (s .pre) (inside (u .before)) (u .unpack .result) (u .unpack .ensures) _ (c .before .before .before .before .before .before .if2 .taken) (c .before .before .invert .ensures))
     -- returns-3
     (λ c.
-    let e = c .before .before .before .before in
-    let s = begin e in
+    let u = c .before .before .before .before in
+    let s = begin (u .before) in
     let a = s .args in
-    let u = c .before .before .before .unpack in
-    read-refused (a .columns) (a .k) (a .cells .now) (a .counters .now) (a .out .now) (s .pre) (inside e) (u .result) (u .ensures) (c .if2 .left)))
+    read-refused (a .columns) (a .k) (a .cells .now) (a .counters .now) (a .out .now) (s .pre) (inside (u .before)) (u .unpack .result) (u .unpack .ensures) (c .if2 .left)))

@@ -56,22 +56,22 @@ write-sized-spec =
     let t = c .before .before .before .plan in
     write-unmaskable b (a .k) (a .cells .now) (a .counters .now) (c .refused2 .result) (p .ranges) refl (p .masks) (p .stuckAt) (p .room) (p .sizes) (inside e)
     (lost (t .result) (plan b (a .k)) (t .ensures .1) (not-true _ (c .before .if2 .taken))) (c .refused2 .ensures))
-    -- store-requires
-    (λ c κs. let s = begin (c .before .before .before .before .before .before) in (rows s, omega (arith, c .before .before .before .before .before .plan .ensures .0, range s .levels .1), s .pre .room))
+    -- invert-requires
+    (λ c κs. search needs)
     -- pack-requires
     (λ c κs. search needs)
     -- stuck-cells-requires
-    (λ c κs. let s = begin (c .before .before .before .before .before .before .before .before .before .before .before .before .before) in omega (arith, s .pre .masks, range s .rows .1))
+    (λ c κs. let s = begin (c .before .before .before .before .before .before .before .before .before .before .before .before .before .before .before) in omega (arith, s .pre .masks, range s .rows .1))
     -- same-length
     (λ c. search needs)
     -- same-length-2
     (λ c. search needs)
     -- returns-3
     (λ c.
-    let q = c .before .before .before .before .before .before .before .before .before .before .before in
+    let q = c .before .before .before .before .before .before .before .before .before .before .before .before .before in
     let e = q .before .before .before in
     let s = begin e in
     let a = s .args in
     let t = q .before .before .plan in
     wrote (a .columns) (a .k) (a .«data» .now) (a .mask .now) (a .values .now) (a .cells .now) (a .counters .now) (s .pre) (inside e) (t .result) (t .ensures) (not-false _ (q .if2 .left))
-    _ _ _ refl refl (c .stuck-cells .ensures) (c .before .before .before .before .before .before .before .store .ensures) (c .before .before .before .pack .ensures)))
+    _ _ _ refl refl (c .stuck-cells .ensures) (c .before .before .before .before .before .before .before .invert .ensures) (c .before .before .before .pack .ensures)))

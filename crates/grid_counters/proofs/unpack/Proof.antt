@@ -1,48 +1,65 @@
 use borrow.Author.Needs.{needs}
 use native.Mathlib.Omega.{arith}
-use mathlib.Core.Path.{_≡_, sym, _∙_}
+use mathlib.Core.Path.{_≡_, refl, sym, ap, _∙_}
 use mathlib.Core.Bool.{true}
-use Prim.Native.Nat.{_≤_}
+use Prim.Native.Nat.{_≤_, _<_}
 use borrow.Author.Tests.{not-true, not-false}
 use lib.ListN.{length}
-use Rattle.rdis.specs.Packing.{width, bytesFor}
-use Rattle.grid_counters.specs.Promises.{fit}
-use Rattle.grid_counters.proofs.PackLaws.{width-few}
-use Rattle.grid_counters.proofs.PromiseLaws.{fit-lengths, not-fit, judged}
+use Rattle.rdis.specs.Packing.{width, counter}
+use Rattle.grid_sets.proofs.SetLaws.{sets-ext}
+use Rattle.grid_counters.specs.Promises.{roomy}
+use Rattle.grid_counters.proofs.PackLaws.{width-some, width-few}
+use Rattle.grid_counters.proofs.PlaneLaws.{from-first}
+use Rattle.grid_counters.proofs.PromiseLaws.{Room, has-room, not-roomy, counter-few, judged}
 use Rattle.grid_counters.proofs.unpack.Statement.{statement}
 use Rattle.grid_counters.proofs.unpack.Tie as tie
 
 -- where the test held
-size : (c : tie.Else1) → fit (c .before .before .before .args .k) (c .before .before .before .args .count) (length (c .before .before .before .args .bytes .now)) ≡ true
-size c = sym (c .before .fits2 .ensures) ∙ not-false _ (c .if1 .left)
+abbrev begin : tie.Else1 → tie.Start
+begin e = e .before .before .before
 
-lengths : (c : tie.Else1) → let a = c .before .before .before .args in (a .count ≤ 128) × (length (a .bytes .now) ≡ bytesFor (width (a .k)) (a .count))
-lengths c = let a = c .before .before .before .args in fit-lengths (a .k) (a .count) (length (a .bytes .now)) (size c)
+fits : (e : tie.Else1) → let a = begin e .args in roomy (a .k) (a .rows) (a .columns) (length (a .bytes .now)) ≡ true
+fits e = sym (e .before .roomy .ensures) ∙ not-false _ (e .if1 .left)
+
+room : (e : tie.Else1) → let a = begin e .args in Room (a .k) (a .rows) (a .columns) (length (a .bytes .now))
+room e = let a = begin e .args in has-room (a .k) (a .rows) (a .columns) (length (a .bytes .now)) (fits e)
+
+-- the width is 1 or 2
+narrow : (e : tie.After-width) → (0 < e .width .result) × (e .width .result ≤ 2)
+narrow e = let k = begin (e .before) .args .k in (omega (arith, e .width .ensures, width-some k), omega (arith, e .width .ensures, width-few k))
 
 pub unpack-spec : {M : Type 1} → statement M
 unpack-spec =
     tie.close
     (tie.spec
-    -- fits-requires
+    -- roomy-requires
     (λ c κs. search needs)
     -- returns
-    (λ c. let a = c .before .before .before .args in not-fit (a .k) (a .count) (a .bytes .now) (sym (c .before .fits2 .ensures) ∙ not-true _ (c .if1 .taken)))
+    (λ c. let a = c .before .before .before .args in not-roomy (a .k) (a .rows) (a .columns) (a .bytes .now) (sym (c .before .roomy .ensures) ∙ not-true _ (c .if1 .taken)))
     -- width-requires
     (λ c κs. search needs)
-    -- unpack-requires
-    (λ c κs. (omega (arith, c .width .ensures, width-few (c .before .before .before .before .args .k)), lengths (c .before) .0))
+    -- planes-from-requires, planes-from-requires-2
+    (λ c κs. (narrow c .0, narrow c .1, refl, omega arith)) (λ c κs. (narrow (c .before) .0, narrow (c .before) .1, refl, omega arith))
+    -- sets-requires, sets-requires-2
+    (λ c κs. (omega arith, room (c .before .before .before) .rows)) (λ c κs. let r = room (c .before .before .before .before) in (omega (arith, r .rows), r .columns))
+    -- add-spare-clear
+    (λ c. let r = room (c .before .before .before .before .before) in omega (arith, r .rows, r .columns))
     -- spare-clear-requires
-    (λ c κs. let w = c .before .width .ensures in let l = lengths (c .before .before) in
-    (omega (arith, w, width-few (c .before .before .before .before .before .args .k)), l .0, rw w (l .1)))
-    -- at-most-requires
-    (λ c κs. lengths (c .before .before .before .before) .0)
-    -- refusal-requires
-    (λ c κs. search needs)
+    (λ c κs.
+    let w = c .before .before .before .before in
+    let r = room (w .before) in
+    (omega (arith, narrow w .1), omega (arith, r .rows, r .columns), rw (w .width .ensures) (r .size)))
+    -- above-requires, refusal-requires
+    (λ c κs. search needs) (λ c κs. search needs)
     -- returns-2
     (λ c.
-    let s = c .before .before .before .before .before .before in
-    let a = s .before .before .before .args in
-    let w = c .before .before .before .before .before .width .ensures in
-    judged (a .k) (a .count) (a .bytes .now) (c .before .before .before .before .unpack .result) (size s) (rw w at (c .before .before .before .before .unpack .ensures))
-    (c .before .before .before .spare-clear .result) (c .before .at-most .result) (c .refusal .result)
-    (rw w at (c .before .before .before .spare-clear .ensures)) (c .before .at-most .ensures) (c .refusal .ensures)))
+    let q = c .before .before .before .before in
+    let w = q .before .before .before .before .before in
+    let e = w .before in
+    let a = begin e .args in
+    let f = counter (width (a .k)) (a .bytes .now) in
+    let four = counter-few (a .k) (a .bytes .now) in
+    let first = from-first f _ (rw (w .width .ensures) at (q .before .before .before .before .planes-from .ensures)) in
+    let second = rw (w .width .ensures) at (q .before .before .before .planes-from2 .ensures) in
+    judged (a .k) (a .rows) (a .columns) (a .bytes .now) _ _ (fits e) (q .before .before .sets .ensures f four first second ∙ sets-ext (a .rows) _ f (λ i _. ap f (omega arith)))
+    (q .before .sets2 .ensures f four first second) (q .spare-clear .result) (c .before .above .result) (c .refusal .result) (rw (w .width .ensures) at (q .spare-clear .ensures)) (c .before .above .ensures) (c .refusal .ensures)))

@@ -4,7 +4,7 @@ use mathlib.Core.Path.{_≡_, sym}
 use Prim.Native.Nat.{ℕ}
 use lib.ListN.{length, take, drop, replicate, length-append, length-drop}
 use lib.Seq.{length-take-le}
-use Rattle.grid_counters.specs.Promises.{times}
+use Rattle.grid_sets.specs.Sets.{times}
 use Rattle.grid_counters.proofs.TallyLaws.{in-order}
 use Rattle.grid_counters.proofs.tally.counters.Statement.{statement}
 use Rattle.grid_counters.proofs.tally.counters.Tie as tie

@@ -4,7 +4,7 @@ use native.Mathlib.Omega.{arith}
 use lib.ListN.{length, take, length-set}
 use Rattle.bits.specs.Bits.{list}
 use Rattle.bits.proofs.BoundLaws.{list-more, list-done}
-use Rattle.grid_counters.specs.Promises.{times}
+use Rattle.grid_sets.specs.Sets.{times}
 use Rattle.grid_counters.proofs.tally.tally.Statement.{statement}
 use Rattle.grid_counters.proofs.tally.tally.Tie as tie
 

@@ -2,7 +2,7 @@ use mathlib.Core.Path.{_≡_, _∙_, ap}
 use Prim.Native.Nat.{_≤_, _-_}
 use native.Mathlib.Omega.{arith}
 use borrow.Author.Needs.{needs}
-use Rattle.grid_counters.specs.Promises.{times}
+use Rattle.grid_sets.specs.Sets.{times}
 use Rattle.grid_counters.proofs.TallyLaws.{times-none, times-step}
 use Rattle.grid_counters.proofs.tally.times.Statement.{statement}
 use Rattle.grid_counters.proofs.tally.times.Tie as tie

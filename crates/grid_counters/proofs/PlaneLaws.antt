@@ -1,0 +1,244 @@
+-- Laws of the way from bytes to planes and from planes to sets. N is the number that bytes make. Assumes nothing.
+use Prim.Native.Nat.{ℕ, zero, suc, _+_, _-_, _*_, _/_, _%_, _^_, _≤_, _<_, min}
+use mathlib.Core.Path.{_≡_, refl, sym, ap, ap₂, subst, _∙_}
+use mathlib.Core.Bool.{Bool, true, false, _&&_, _||_, or-false}
+use mathlib.Core.List.{List, [], _∷_}
+use mathlib.Core.Logic.{⊎-elim}
+use native.Mathlib.Nat.{div-one, mod-lt, mod-eq-of-lt, mul-comm, mul-assoc, mul-suc, add-mul, zero-mul, lt-of-le-of-lt}
+use native.Mathlib.Omega.{arith}
+use borrow.Author.Tests.{le-ltb}
+use lib.Arith.{digits-lt}
+use lib.Bits.{bitAnd, bitOr, or-lt, and-lt, and-le-l, or-shifted, shifted-even}
+use lib.Dec.{eqb, ltb, lit<, lit≤}
+use lib.ListN.{length, getD, take, drop, length-drop}
+use lib.Pow.{pow-pos, pow-add, shl-exact, shl-shr}
+use lib.Seq.{take-all, getD-drop}
+use Rattle.bits.specs.Bits.{num, list, number, has, word, words, Below}
+use Rattle.bits.proofs.TestLaws.{lt-or-le}
+use Rattle.bits.proofs.BitLaws.{has-and, has-or, has-zero, has-low, has-high, has-shr, has-word, is-word, word-lt, word-ext}
+use Rattle.bits.proofs.ByteLaws.{words-ext}
+use Rattle.rdis.specs.Packing.{counter}
+use Rattle.grid_sets.specs.Sets.{setsOf}
+use Rattle.grid_counters.specs.declared.planes.Planes.{Planes}
+use Rattle.grid_counters.specs.Steps.{AreBits}
+use Rattle.grid_counters.proofs.PackLaws.{window, window-more}
+
+-- ---- eight bytes
+
+pub lifted : (x at : ℕ) → x < 256 → at ≤ 56 → x * 2 ^ at % 2 ^ 64 ≡ x * 2 ^ at
+lifted x at h l = shl-exact 8 at 64 h (omega arith)
+
+small : (j : ℕ) (ds : List ℕ) → Below 256 ds → number 256 (take j ds) < 2 ^ (8 * j)
+unfolding number
+small zero ds h = pow-pos (8 * 0)
+small (suc j) [] h = pow-pos (8 * suc j)
+small (suc j) (d ∷ ds) h = rw (mul-suc 8 j, pow-add 2 (8 * j) 8) (digits-lt (small j ds (λ i. h (suc i))) (h 0))
+
+dropped : (q : ℕ) (bs : List ℕ) → Below 256 bs → Below 256 (drop q bs)
+dropped q bs h i = rw getD-drop (h (q + i))
+
+pub join-more : (q j v x : ℕ) (bs : List ℕ) → Below 256 bs → v ≡ number 256 (take j (drop q bs)) → x ≡ getD bs (q + j) 0 * 2 ^ (8 * j)
+    → bitOr x v ≡ number 256 (take (j + 1) (drop q bs))
+join-more q j v x bs h e f =
+    let l : v < 2 ^ (8 * j) = rw e (small j (drop q bs) (dropped q bs h)) in
+    let s = window-more 8 q j v x bs e f in
+    ap (λ y. bitOr y v) f ∙ or-shifted (getD bs (q + j) 0) (8 * j) v l ∙ ap (λ y. y + v) (sym f) ∙ omega (arith, s)
+
+-- eight bytes, or all that are left, are the 64 bits from there on
+pub loaded : (q : ℕ) (bs : List ℕ) → Below 256 bs → number 256 (take 8 (drop q bs)) ≡ number 256 bs / 2 ^ (8 * q) % 2 ^ 64
+loaded q bs h =
+    let here : 8 * q / 8 ≡ q = omega arith in
+    let edge : 8 * q % 8 ≡ 0 = omega arith in
+    let few : number 256 (take 8 (drop q bs)) < 2 ^ 64 = small 8 (drop q bs) (dropped q bs h) in
+    sym (mod-eq-of-lt few) ∙ ap (λ x. x % 2 ^ 64) (sym (div-one (number 256 (take 8 (drop q bs))))) ∙ rw (here, edge) at (window 8 (8 * q) 64 8 bs h (omega arith))
+
+pub all-left : (q n : ℕ) (bs : List ℕ) → Below 256 bs → length bs ≤ q + n → n ≤ 8 → number 256 (take n (drop q bs)) ≡ number 256 bs / 2 ^ (8 * q) % 2 ^ 64
+all-left q n bs b h l =
+    let few : length (drop q bs) ≤ n = rw length-drop (omega arith) in
+    ap (number 256) (take-all n (drop q bs) few ∙ sym (take-all 8 (drop q bs) (omega arith))) ∙ loaded q bs b
+
+pub none-left : (q : ℕ) (bs : List ℕ) → Below 256 bs → length bs ≤ q → 0 ≡ number 256 bs / 2 ^ (8 * q) % 2 ^ 64
+unfolding number
+none-left q bs b h = all-left q 0 bs b (omega arith) (omega arith)
+
+-- bit j of them
+bit-loaded : (q j : ℕ) (x : ℕ) → j < 64 → has (x / 2 ^ (8 * q) % 2 ^ 64) j ≡ has x (8 * q + j)
+bit-loaded q j x l = has-low 64 (x / 2 ^ (8 * q)) j l ∙ has-shr x (8 * q) j
+
+-- ---- planes
+
+-- bit k of counter t
+counter-bit : (w t k : ℕ) (bs : List ℕ) → k < w → has (counter w bs t) k ≡ has (number 256 bs) (w * t + k)
+unfolding counter
+counter-bit w t k bs h = has-low w (number 256 bs / 2 ^ (w * t)) k h ∙ has-shr (number 256 bs) (w * t) k
+
+no-second-bit : (t : ℕ) (bs : List ℕ) → has (counter 1 bs t) 1 ≡ false
+unfolding counter
+no-second-bit t bs = has-high 1 (number 256 bs / 2 ^ (1 * t) % 2 ^ 1) 1 (mod-lt _ (pow-pos 1)) (omega arith)
+
+word-join : (n k : ℕ) (f : ℕ → Bool) → word (n + k) f ≡ word k (λ i. f (n + i)) * 2 ^ n + word n f
+unfolding word
+word-join n zero f = let e : n + 0 ≡ n = omega arith in rw (e, zero-mul) (omega arith)
+word-join n (suc k) f =
+    let e : n + suc k ≡ suc (n + k) = omega arith in
+    rw (e, word-join n k f, pow-add 2 n k, add-mul) (omega (arith, swap (num (f (n + k))) (2 ^ n) (2 ^ k)))
+  where
+    swap : (a x y : ℕ) → a * (x * y) ≡ a * y * x
+    swap a x y = ap (λ z. a * z) (mul-comm x y) ∙ sym (mul-assoc a y x)
+
+-- 32 bits and 32 bits, side by side
+pub side-by-side : (x y : ℕ) (g h f : ℕ → Bool) → x ≡ word 32 g → y ≡ word 32 h → ((i : ℕ) → i < 32 → g i ≡ f i) → ((i : ℕ) → i < 32 → h i ≡ f (32 + i))
+    → bitOr (y * 2 ^ 32 % 2 ^ 64) x ≡ word 64 f
+side-by-side x y g h f ex ey eg eh =
+    let low : x ≡ word 32 f = ex ∙ word-ext 32 g f eg in
+    let high : y ≡ word 32 (λ i. f (32 + i)) = ey ∙ word-ext 32 h (λ i. f (32 + i)) eh in
+    let room : y < 2 ^ 32 = rw ey (word-lt 32 h) in
+    let less : x < 2 ^ 32 = rw ex (word-lt 32 g) in
+    ap (λ z. bitOr z x) (shl-exact 32 32 64 room (omega arith)) ∙ or-shifted y 32 x less ∙ ap₂ (λ u v. u * 2 ^ 32 + v) high low ∙ sym (word-join 32 32 f)
+
+-- bit q of a counter, at any width w: where it stands in the 64 bits x from byte p on
+at-place : (w p x : ℕ) (bs : List ℕ) → x ≡ number 256 bs / 2 ^ (8 * p) % 2 ^ 64 → (q i u : ℕ) → q < w → q + w * i < 64 → 8 * p + w * i ≡ w * u → has x (q + w * i) ≡ has (counter w bs u) q
+at-place w p x bs e q i u h l s =
+    let place : 8 * p + (q + w * i) ≡ w * u + q = omega arith in
+    ap (λ y. has y (q + w * i)) e ∙ bit-loaded p (q + w * i) (number 256 bs) l ∙ ap (has (number 256 bs)) place ∙ sym (counter-bit w u q bs h)
+
+module _ (first : ℕ) (bs : List ℕ) where
+  -- counters of one bit are the bits as they stand
+  pub single-planes : first % 8 ≡ 0 → (x : ℕ) → x ≡ number 256 bs / 2 ^ (8 * (first / 8)) % 2 ^ 64 → AreBits (λ i. counter 1 bs (first + i)) (record { low = x; high = 0 })
+  single-planes h x e = record {
+    lower = is-word 64 x _ (rw e (mod-lt _ (pow-pos 64)))
+        (λ i l. let here : i ≡ 0 + 1 * i = omega arith in ap (has x) here ∙ at-place 1 (first / 8) x bs e 0 i (first + i) (lit< tt) (omega arith) (omega arith));
+    higher = is-word 64 0 _ (pow-pos 64) (λ i _. has-zero i ∙ sym (no-second-bit (first + i) bs));
+  }
+
+  -- counters of two bits: bit q of 32 of them stands at every second place from place q on
+  module _ (p x : ℕ) (e : x ≡ number 256 bs / 2 ^ (8 * p) % 2 ^ 64) where
+    low-place : (i u : ℕ) → i < 32 → 4 * p + i ≡ u → has x (2 * i) ≡ has (counter 2 bs u) 0
+    low-place i u l s = let here : 2 * i ≡ 0 + 2 * i = omega arith in ap (has x) here ∙ at-place 2 p x bs e 0 i u (lit< tt) (omega arith) (omega arith)
+
+    high-place : (i u : ℕ) → i < 32 → 4 * p + i ≡ u → has (x / 2 ^ 1) (2 * i) ≡ has (counter 2 bs u) 1
+    high-place i u l s = has-shr x 1 (2 * i) ∙ at-place 2 p x bs e 1 i u (lit< tt) (omega arith) (omega arith)
+
+  -- what a plane says that is made of two words
+  abbrev pub FromEven : ℕ → ℕ → ℕ → Type 0
+  FromEven x y r = (f : ℕ → Bool) → ((i : ℕ) → i < 32 → has x (2 * i) ≡ f i) → ((i : ℕ) → i < 32 → has y (2 * i) ≡ f (32 + i)) → r ≡ word 64 f
+
+  pub double-planes : first % 8 ≡ 0 → (x y low high : ℕ) → x ≡ number 256 bs / 2 ^ (8 * (first / 4)) % 2 ^ 64 → y ≡ number 256 bs / 2 ^ (8 * (first / 4 + 8)) % 2 ^ 64
+      → FromEven x y low → FromEven (x / 2 ^ 1) (y / 2 ^ 1) high → AreBits (λ i. counter 2 bs (first + i)) (record { low = low; high = high })
+  double-planes h x y low high ex ey p q = record {
+    lower = p (λ i. has (counter 2 bs (first + i)) 0) (λ i l. low-place (first / 4) x ex i (first + i) l (omega arith)) (λ i l. low-place (first / 4 + 8) y ey i (first + (32 + i)) l (omega arith));
+    higher = q (λ i. has (counter 2 bs (first + i)) 1) (λ i l. high-place (first / 4) x ex i (first + i) l (omega arith)) (λ i l. high-place (first / 4 + 8) y ey i (first + (32 + i)) l (omega arith));
+  }
+
+-- ---- bits out of two words
+
+-- a word moved up by k has 0 below, and its bits above
+moved-low : (x k i : ℕ) → i < k → i < 64 → has (x * 2 ^ k % 2 ^ 64) i ≡ false
+unfolding has
+moved-low x k i h l =
+    let e : k ≡ suc (k - suc i) + i = omega arith in
+    let split : x * 2 ^ k ≡ x * 2 ^ suc (k - suc i) * 2 ^ i = ap (λ y. x * 2 ^ y) e ∙ ap (λ y. x * y) (pow-add 2 (suc (k - suc i)) i) ∙ sym (mul-assoc x (2 ^ suc (k - suc i)) (2 ^ i)) in
+    has-low 64 (x * 2 ^ k) i l ∙ ap (λ y. eqb (y / 2 ^ i % 2) 1) split ∙ ap (λ y. eqb (y % 2) 1) (shl-shr (x * 2 ^ suc (k - suc i)) i) ∙ ap (λ y. eqb y 1) (shifted-even x (k - suc i))
+
+moved-high : (x k i : ℕ) → k ≤ i → i < 64 → has (x * 2 ^ k % 2 ^ 64) i ≡ has x (i - k)
+moved-high x k i h l =
+    let e : i ≡ k + (i - k) = omega arith in
+    has-low 64 (x * 2 ^ k) i l ∙ ap (has (x * 2 ^ k)) e ∙ sym (has-shr (x * 2 ^ k) k (i - k)) ∙ ap (λ y. has y (i - k)) (shl-shr x k)
+
+-- by 1 and then by 63 - a, so 64 - a in all, also where a is 0
+module _ (x a i : ℕ) (l : i < 64) (h : a < 64) where
+  abbrev moved : ℕ
+  moved = x * 2 ^ 1 % 2 ^ 64 * 2 ^ (63 - a) % 2 ^ 64
+
+  twice-low : a + i < 64 → has moved i ≡ false
+  twice-low k =
+      ⊎-elim (λ q. moved-low (x * 2 ^ 1 % 2 ^ 64) (63 - a) i q l)
+      (λ q. let e : i - (63 - a) ≡ 0 = omega arith in moved-high (x * 2 ^ 1 % 2 ^ 64) (63 - a) i q l ∙ ap (has (x * 2 ^ 1 % 2 ^ 64)) e ∙ moved-low x 1 0 (omega arith) (omega arith))
+      (lt-or-le i (63 - a))
+
+  twice-high : 64 ≤ a + i → has moved i ≡ has x (a + i - 64)
+  twice-high k =
+      let e : i - (63 - a) - 1 ≡ a + i - 64 = omega arith in
+      moved-high (x * 2 ^ 1 % 2 ^ 64) (63 - a) i (omega arith) l ∙ moved-high x 1 (i - (63 - a)) (omega arith) (omega arith) ∙ ap (has x) e
+
+module _ (n first second at : ℕ) (f : ℕ → Bool) (few : n ≤ 64) (e : first ≡ word 64 f) (g : second ≡ word 64 (λ i. f (64 + i))) (mask : ℕ) (m : mask ≡ word (min n 64) (λ _. true)) where
+  -- the mask lets through what stands below n
+  masked-word : (x : ℕ) → ((i : ℕ) → i < n → has x i ≡ f (at + i)) → bitAnd mask x ≡ word n (λ i. f (at + i))
+  masked-word x h =
+      let all : min n 64 ≡ n = omega arith in
+      let ones : mask ≡ word n (λ _. true) = m ∙ ap (λ y. word y (λ _. true)) all in
+      is-word n (bitAnd mask x) (λ i. f (at + i)) (lt-of-le-of-lt (and-le-l mask x) (rw ones (word-lt n (λ _. true))))
+      (λ i l. has-and mask x i ∙ ap₂ _&&_ (ap (λ y. has y i) ones ∙ has-word n (λ _. true) i l) (h i l))
+
+  in-second : (i : ℕ) → i < 64 → has second i ≡ f (64 + i)
+  in-second i l = ap (λ y. has y i) g ∙ has-word 64 (λ i. f (64 + i)) i l
+
+  pub cut-second : at ≡ 64 → bitAnd mask second ≡ word n (λ i. f (at + i))
+  cut-second z = masked-word second (λ i l. in-second i (omega arith) ∙ ap (λ y. f (y + i)) (sym z))
+
+  pub cut-both : at < 64 → bitAnd mask (bitOr (first / 2 ^ at) (second * 2 ^ 1 % 2 ^ 64 * 2 ^ (63 - at) % 2 ^ 64)) ≡ word n (λ i. f (at + i))
+  cut-both z =
+      masked-word (bitOr (first / 2 ^ at) (second * 2 ^ 1 % 2 ^ 64 * 2 ^ (63 - at) % 2 ^ 64)) (λ i l.
+      let near : i < 64 = omega arith in
+      has-or (first / 2 ^ at) (moved second at i near z) i
+      ∙ ⊎-elim
+      (λ q. ap₂ _||_ (has-shr first at i ∙ ap (λ y. has y (at + i)) e ∙ has-word 64 f (at + i) q) (twice-low second at i near z q) ∙ or-false (f (at + i)))
+      (λ q. let there : 64 + (at + i - 64) ≡ at + i = omega arith in
+      ap₂ _||_ (has-shr first at i ∙ ap (λ y. has y (at + i)) e ∙ has-high 64 (word 64 f) (at + i) (word-lt 64 f) q) (twice-high second at i near z q ∙ in-second (at + i - 64) (omega arith) ∙ ap f there))
+      (lt-or-le (at + i) 64))
+
+-- ---- sets of counters of two bits
+
+-- the number of two bits
+abbrev two : Bool → Bool → ℕ
+two a b = num a + 2 * num b
+
+two-bits : (x : ℕ) → x < 4 → two (has x 0) (has x 1) ≡ x
+unfolding has
+two-bits zero h = refl
+two-bits (suc zero) h = refl
+two-bits (suc (suc zero)) h = refl
+two-bits (suc (suc (suc zero))) h = refl
+two-bits (suc (suc (suc (suc x)))) h = absurd (omega arith)
+
+-- which numbers below 8 it is above
+record Above (a b : Bool) : Type 0 where
+  s0 : a || b ≡ ltb 0 (two a b)
+  s1 : b ≡ ltb 1 (two a b)
+  s2 : a && b ≡ ltb 2 (two a b)
+  more : (s : ℕ) → 3 ≤ s → false ≡ ltb s (two a b)
+
+above-two : (a b : Bool) → Above a b
+above-two true true = record { s0 = refl; s1 = refl; s2 = refl; more = λ s h. sym (le-ltb s 3 h) }
+above-two true false = record { s0 = refl; s1 = refl; s2 = refl; more = λ s h. sym (le-ltb s 1 (omega arith)) }
+above-two false true = record { s0 = refl; s1 = refl; s2 = refl; more = λ s h. sym (le-ltb s 2 (omega arith)) }
+above-two false false = record { s0 = refl; s1 = refl; s2 = refl; more = λ s h. sym (le-ltb s 0 (omega arith)) }
+
+module _ (a b n : ℕ) (ha : a < 2 ^ n) (hb : b < 2 ^ n) where
+  abbrev over : ℕ → ℕ → Bool
+  over s i = ltb s (two (has a i) (has b i))
+
+  empty : (s : ℕ) → 3 ≤ s → 0 ≡ word n (over s)
+  empty s h = is-word n 0 (over s) (pow-pos n) (λ i _. has-zero i ∙ above-two (has a i) (has b i) .more s h)
+
+  pub thresholds-are : _≡_ {A = List ℕ} (bitOr a b ∷ (b ∷ (bitAnd a b ∷ (0 ∷ (0 ∷ (0 ∷ (0 ∷ (0 ∷ [])))))))) (words 8 n over)
+  unfolding words list
+  thresholds-are =
+      let e0 = is-word n (bitOr a b) (over 0) (or-lt n a b ha hb) (λ i _. has-or a b i ∙ above-two (has a i) (has b i) .s0) in
+      let e1 = is-word n b (over 1) hb (λ i _. above-two (has a i) (has b i) .s1) in
+      let e2 = is-word n (bitAnd a b) (over 2) (and-lt n a b ha hb) (λ i _. has-and a b i ∙ above-two (has a i) (has b i) .s2) in
+      λ t. e0 t ∷ (e1 t ∷ (e2 t ∷ (empty 3 (lit≤ tt) t ∷ (empty 4 (lit≤ tt) t ∷ (empty 5 (lit≤ tt) t ∷ (empty 6 (lit≤ tt) t ∷ (empty 7 (lit≤ tt) t ∷ [])))))))
+
+-- the sets of n counters f, by the words of their bits
+pub sets-by-bits : (n : ℕ) (f : ℕ → ℕ) → ((i : ℕ) → f i < 4) → words 8 n (over (word n (λ i. has (f i) 0)) (word n (λ i. has (f i) 1)) n (word-lt n _) (word-lt n _)) ≡ setsOf n f
+unfolding setsOf
+sets-by-bits n f h =
+    words-ext 8 n _ _ (λ s i _ l. ap (ltb s) (ap₂ two (has-word n (λ i. has (f i) 0) i l) (has-word n (λ i. has (f i) 1) i l) ∙ two-bits (f i) (h i)))
+
+-- ---- counters from the first on
+
+pub from-first : (f : ℕ → ℕ) (p : Planes) → AreBits (λ i. f (0 + i)) p → AreBits f p
+from-first f p = subst (λ g. AreBits g p) (λ t i. f (here i t))
+  where
+    here : (i : ℕ) → 0 + i ≡ i
+    here i = omega arith

@@ -1,0 +1,21 @@
+use borrow.Author.Needs.{needs}
+use mathlib.Core.Path.{_∙_}
+use Prim.Native.Nat.{_+_}
+use Rattle.bits.specs.Bits.{has}
+use Rattle.bits.proofs.BitLaws.{word-lt}
+use Rattle.grid_counters.proofs.PlaneLaws.{sets-by-bits}
+use Rattle.grid_counters.proofs.planes.sets.Statement.{statement}
+use Rattle.grid_counters.proofs.planes.sets.Tie as tie
+
+pub sets-spec : {M : Type 1} → statement M
+sets-spec =
+    tie.close
+    (tie.spec
+    (λ c κs. search needs) (λ c κs. search needs) (λ c κs. search needs)
+    -- returns
+    (λ c f four p q.
+    let s = c .before .before .before in
+    let n = s .args .n in
+    let low = c .before .before .cut .ensures (λ i. has (f i) 0) (s .pre .1) (p .lower) (q .lower) in
+    let high = c .before .cut2 .ensures (λ i. has (f i) 1) (s .pre .1) (p .higher) (q .higher) in
+    c .thresholds .ensures n (rw low (word-lt n _)) (rw high (word-lt n _)) ∙ rw (low, high) (sets-by-bits n (λ i. f (s .args .at + i)) (λ i. four (s .args .at + i)))))

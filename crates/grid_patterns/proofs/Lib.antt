@@ -1,0 +1,3 @@
+pub mod FlipLaws
+pub mod FillLaws
+pub mod InvertLaws

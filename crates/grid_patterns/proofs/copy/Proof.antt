@@ -1,0 +1,41 @@
+use mathlib.Core.Path.{_≡_, refl}
+use Prim.Native.Nat.{_≤_, _-_}
+use native.Mathlib.Omega.{arith}
+use borrow.Author.Needs.{needs}
+use lib.ListN.{length, take, length-set}
+use Rattle.grid_patterns.proofs.FillLaws.{copy-more, copy-done}
+use Rattle.grid_patterns.proofs.copy.Statement.{statement}
+use Rattle.grid_patterns.proofs.copy.Tie as tie
+
+abbrev Inv-loop : tie.InvT-loop
+Inv-loop from into₀ i₀ into i = (i ≤ length from) × (length into ≡ length from) × (take i into ≡ take i from)
+
+abbrev μ-loop : tie.MeasureT-loop
+μ-loop from into₀ i₀ into i = length from - i
+
+pub copy-spec : {M : Type 1} → statement M
+copy-spec =
+    tie.close
+    (tie.spec
+    Inv-loop
+    μ-loop
+    -- loop-holds
+    (λ c. (omega arith, c .pre, refl))
+    -- mul-into
+    (λ c. search needs)
+    -- shared-slice-read-into
+    (λ c. search needs)
+    -- mul-into-2
+    (λ c. search needs)
+    -- slice-write-into
+    (λ c. omega arith)
+    -- add-i
+    (λ c. search needs)
+    -- loop-less
+    (λ c. search needs)
+    -- loop-again
+    (λ c. let l = c .before .before .loop in (omega arith, simp length-set (l .inv .1), copy-more (l .i) _ (l .into) (omega arith) (l .inv .1) (l .inv .2)))
+    -- same-length
+    (λ c. omega arith)
+    -- returns
+    (λ c. copy-done (c .before .loop .i) _ _ (omega arith) (c .before .loop .inv .1) (c .before .loop .inv .2)))

@@ -1,0 +1,97 @@
+-- Laws of the sets of counters: which lines they have, how often they have a line, and where two of them cross. Assumes nothing.
+use Prim.Native.Nat.{ℕ, _+_, _%_, _≤_, _<_, min}
+use mathlib.Core.Path.{_≡_, refl, sym, ap, ap₂, _∙_}
+use mathlib.Core.Bool.{Bool, true, false, not, _&&_, _||_, and-false}
+use mathlib.Core.List.{List}
+use native.Mathlib.Omega.{arith}
+use borrow.Author.Tests.{lt-ltb, le-ltb, ltb-true, eq-eqb, ne-eqb, not-true}
+use lib.Dec.{eqb, ltb}
+use lib.ListN.{getD}
+use Rattle.bits.specs.Bits.{num, some, sum, has, word, words}
+use Rattle.bits.proofs.TestLaws.{clash, same-test, and-in, and-left, and-right}
+use Rattle.bits.proofs.BoundLaws.{some-ext, some-join, sum-ext, sum-below}
+use Rattle.bits.proofs.BitLaws.{has-high, has-word, word-lt, some-has}
+use Rattle.bits.proofs.ByteLaws.{getD-words, has-words, words-below, words-ext}
+use Rattle.rdis.specs.Cells.{flips}
+use Rattle.grid_sets.specs.Sets.{setsOf, times, crossings, odd, someLine}
+
+-- ---- the lines of a set
+
+-- set s has the lines whose counter is above s, and no line past the last
+pub set-has : (n s i : ℕ) (f : ℕ → ℕ) → s < 8 → i < n → has (getD (setsOf n f) s 0) i ≡ ltb s (f i)
+unfolding setsOf
+set-has n s i f h l = has-words 8 n (λ s i. ltb s (f i)) s i h l
+
+pub set-past : (n s i : ℕ) (f : ℕ → ℕ) → n ≤ i → has (getD (setsOf n f) s 0) i ≡ false
+unfolding setsOf
+set-past n s i f h = has-high n (getD (words 8 n (λ s i. ltb s (f i))) s 0) i (words-below 8 n (λ s i. ltb s (f i)) s) h
+
+-- equal counters have equal sets
+pub sets-ext : (n : ℕ) (f g : ℕ → ℕ) → ((i : ℕ) → i < n → f i ≡ g i) → setsOf n f ≡ setsOf n g
+unfolding setsOf
+sets-ext n f g e = words-ext 8 n (λ s i. ltb s (f i)) (λ s i. ltb s (g i)) (λ s i _ l. ap (ltb s) (e i l))
+
+word-some : (n : ℕ) (g : ℕ → Bool) → not (eqb (word n g) 0) ≡ some n g
+word-some n g =
+    let e : some n (has (word n g)) ≡ some n g = some-ext n (has (word n g)) g (λ j l. has-word n g j l) in
+    same-test (not (eqb (word n g) 0)) (some n g)
+    (λ h. sym e ∙ some-has n (word n g) (word-lt n g) .1 (λ q. clash (eq-eqb (word n g) 0 q) (not-true (eqb (word n g) 0) h)))
+    (λ h. ap not (ne-eqb (word n g) 0 (some-has n (word n g) (word-lt n g) .0 (e ∙ h))))
+
+-- set s has a line exactly if some counter is above s
+pub set-some : (n s : ℕ) (f : ℕ → ℕ) → s < 8 → not (eqb (getD (setsOf n f) s 0) 0) ≡ some n (λ i. ltb s (f i))
+unfolding setsOf
+set-some n s f h = ap (λ x. not (eqb x 0)) (getD-words 8 n (λ s i. ltb s (f i)) s h) ∙ word-some n (λ i. ltb s (f i))
+
+neither : (x y : Bool) → not (x && y) ≡ not y || not x
+neither true true = refl
+neither true false = refl
+neither false true = refl
+neither false false = refl
+
+-- and so of two kinds of lines, whose counters stand one after the other
+pub some-line : (m n s : ℕ) (f : ℕ → ℕ) → s < 8 → someLine (setsOf m f) (setsOf n (λ j. f (m + j))) s ≡ some (m + n) (λ t. ltb s (f t))
+some-line m n s f h =
+    neither (eqb (getD (setsOf m f) s 0) 0) (eqb (getD (setsOf n (λ j. f (m + j))) s 0) 0)
+    ∙ ap₂ _||_ (set-some n s (λ j. f (m + j)) h) (set-some m s f h) ∙ sym (some-join m n (λ t. ltb s (f t)))
+
+-- ---- how many sets have a line, or two
+
+-- a counter is how many sets have its line
+pub times-sets : (n u i : ℕ) (f : ℕ → ℕ) → u ≤ 8 → i < n → times (setsOf n f) u i ≡ min u (f i)
+unfolding times
+times-sets n u i f h l = sum-ext u _ (λ s. num (ltb s (f i))) (λ s k. ap num (set-has n s i f (omega arith) l)) ∙ sum-below u (f i)
+
+both-above : (s x y : ℕ) → ltb s x && ltb s y ≡ ltb s (min x y)
+both-above s x y =
+    same-test (ltb s x && ltb s y) (ltb s (min x y))
+    (λ h. let p = ltb-true s x (and-left _ _ h) in let q = ltb-true s y (and-right (ltb s x) _ h) in lt-ltb s (min x y) (omega arith))
+    (λ h. let p = ltb-true s (min x y) h in and-in (lt-ltb s x (omega arith)) (lt-ltb s y (omega arith)))
+
+-- the smaller of two counters is how many pairs of sets have both lines
+pub crossings-sets : (m n u i j : ℕ) (r c : ℕ → ℕ) → u ≤ 8 → i < m → j < n → crossings (setsOf m r) (setsOf n c) u i j ≡ min u (min (r i) (c j))
+unfolding crossings
+crossings-sets m n u i j r c h p q =
+    sum-ext u _ (λ s. num (ltb s (min (r i) (c j)))) (λ s k. ap num (ap₂ _&&_ (set-has m s i r (omega arith) p) (set-has n s j c (omega arith) q) ∙ both-above s (r i) (c j)))
+    ∙ sum-below u (min (r i) (c j))
+
+none-counted : (u : ℕ) (f : ℕ → Bool) → ((s : ℕ) → f s ≡ false) → sum u (λ s. num (f s)) ≡ 0
+none-counted u f h = sum-ext u (λ s. num (f s)) (λ s. num (ltb s 0)) (λ s _. ap num (h s ∙ sym (le-ltb s 0 (omega arith)))) ∙ sum-below u 0 ∙ omega arith
+
+-- and past the last column no pair has both
+pub crossings-past : (rows : List ℕ) (n u i j : ℕ) (c : ℕ → ℕ) → n ≤ j → crossings rows (setsOf n c) u i j ≡ 0
+unfolding crossings
+crossings-past rows n u i j c h = none-counted u _ (λ s. ap (λ t. has (getD rows s 0) i && t) (set-past n s j c h) ∙ and-false (has (getD rows s 0) i))
+
+-- ---- the pattern of a row
+
+-- where no counter of a row is above u, the first u pairs of sets have a cell in the pattern exactly where its counters invert it
+pub odd-flips : (m n u i j : ℕ) (r c : ℕ → ℕ) → u ≤ 8 → r i ≤ u → i < m → j < n → odd (setsOf m r) (setsOf n c) u i j ≡ flips r c i j
+unfolding odd flips
+odd-flips m n u i j r c h k p q =
+    let few : min u (min (r i) (c j)) ≡ min (r i) (c j) = omega arith in
+    ap (λ x. eqb (x % 2) 1) (crossings-sets m n u i j r c h p q ∙ few)
+
+pub odd-past : (rows : List ℕ) (n u i j : ℕ) (c : ℕ → ℕ) → n ≤ j → odd rows (setsOf n c) u i j ≡ false
+unfolding odd
+odd-past rows n u i j c h = rw (crossings-past rows n u i j c h)
