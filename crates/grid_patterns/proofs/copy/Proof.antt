@@ -21,18 +21,8 @@ copy-spec =
     μ-loop
     -- loop-holds
     (λ c. (omega arith, c .pre, refl))
-    -- mul-into
-    (λ c. search needs)
-    -- shared-slice-read-into
-    (λ c. search needs)
-    -- mul-into-2
-    (λ c. search needs)
-    -- slice-write-into
-    (λ c. omega arith)
-    -- add-i
-    (λ c. search needs)
-    -- loop-less
-    (λ c. search needs)
+    -- mul-into, shared-slice-read-into, mul-into-2, slice-write-into, add-i, loop-less
+    (λ c. search needs) (λ c. search needs) (λ c. search needs) (λ c. omega arith) (λ c. search needs) (λ c. search needs)
     -- loop-again
     (λ c. let l = c .before .before .loop in (omega arith, simp length-set (l .inv .1), copy-more (l .i) _ (l .into) (omega arith) (l .inv .1) (l .inv .2)))
     -- same-length

@@ -32,14 +32,8 @@ fill-spec =
     (λ c κs. search needs)
     -- loop-holds
     (λ c. (c .before .before .before .copy .ensures ∙ none-inverted _ _ _ (λ i. c .before .before .before .before .before .before .shared-slice-known .given i .fits), omega arith))
-    -- mul-flip
-    (λ c. omega arith)
-    -- element-copy-out-flip
-    (λ c. omega arith)
-    -- mul-flip-2
-    (λ c. omega arith)
-    -- element-copy-out-flip-2
-    (λ c. omega arith)
+    -- mul-flip, element-copy-out-flip, mul-flip-2, element-copy-out-flip-2
+    (λ c. omega arith) (λ c. omega arith) (λ c. omega arith) (λ c. omega arith)
     -- flip-requires
     (λ c κs.
     let b = c .before .before .before .before in
