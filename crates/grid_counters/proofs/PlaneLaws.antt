@@ -17,6 +17,7 @@ use Rattle.bits.specs.Bits.{num, list, number, has, word, words, Below}
 use Rattle.bits.proofs.TestLaws.{lt-or-le}
 use Rattle.bits.proofs.BitLaws.{has-and, has-or, has-zero, has-low, has-high, has-shr, has-word, is-word, word-lt, word-ext}
 use Rattle.bits.proofs.ByteLaws.{words-ext}
+use Rattle.words.proofs.LowBitsLaws.{low-lt, low-has}
 use Rattle.rdis.specs.Packing.{counter}
 use Rattle.grid_sets.specs.Sets.{setsOf}
 use Rattle.grid_counters.specs.declared.planes.Planes.{Planes}
@@ -165,10 +166,8 @@ module _ (n first second at : ℕ) (f : ℕ → Bool) (few : n ≤ 64) (e : firs
   -- the mask lets through what stands below n
   masked-word : (x : ℕ) → ((i : ℕ) → i < n → has x i ≡ f (at + i)) → bitAnd mask x ≡ word n (λ i. f (at + i))
   masked-word x h =
-      let all : min n 64 ≡ n = omega arith in
-      let ones : mask ≡ word n (λ _. true) = m ∙ ap (λ y. word y (λ _. true)) all in
-      is-word n (bitAnd mask x) (λ i. f (at + i)) (lt-of-le-of-lt (and-le-l mask x) (rw ones (word-lt n (λ _. true))))
-      (λ i l. has-and mask x i ∙ ap₂ _&&_ (ap (λ y. has y i) ones ∙ has-word n (λ _. true) i l) (h i l))
+      is-word n (bitAnd mask x) (λ i. f (at + i)) (lt-of-le-of-lt (and-le-l mask x) (low-lt n mask few m))
+      (λ i l. has-and mask x i ∙ ap₂ _&&_ (low-has n mask few m i l) (h i l))
 
   in-second : (i : ℕ) → i < 64 → has second i ≡ f (64 + i)
   in-second i l = ap (λ y. has y i) g ∙ has-word 64 (λ i. f (64 + i)) i l

@@ -12,8 +12,9 @@ use lib.ListN.{length, getD, take, set}
 use lib.Seq.{take-suc, take-suc-set, take-all}
 use Rattle.bits.specs.Bits.{num, sum, has, word, words, Below}
 use Rattle.bits.proofs.TestLaws.{xor-true, xor-false, xor-assoc}
-use Rattle.bits.proofs.BitLaws.{has-and, has-word, word-lt}
+use Rattle.bits.proofs.BitLaws.{has-and}
 use Rattle.bits.proofs.ByteLaws.{has-words, is-words, length-words, words-below, words-ext}
+use Rattle.words.proofs.LowBitsLaws.{low-lt, low-has}
 use Rattle.rdis.specs.Block.{bit}
 use Rattle.grid_sets.specs.Sets.{crossings, odd}
 use Rattle.grid_patterns.specs.Promises.{invertedBy}
@@ -53,18 +54,15 @@ inverted-suc rows columns from m i j =
     xor-assoc (has (getD rows m 0) i && has (getD columns m 0) j) (odd rows columns m i j) (bit from i j) ∙ ap (λ t. xor t (bit from i j)) (odd-suc rows columns m i j)
 
 module _ (rows columns from : List ℕ) (n inside : ℕ) (size : n ≤ 64) (low : inside ≡ word (min n 64) (λ _. true)) where
-  all : min n 64 ≡ n
-  all = omega arith
-
   -- what a flip asks: the rows of a set are among the words, and those fit
   pub can-flip : (m : ℕ) (into : List ℕ) → into ≡ words n 64 (invertedBy rows columns m from)
       → (length into ≤ 64) × (bitAnd (getD rows m 0) inside < 2 ^ length into) × Below (2 ^ 64) into
   can-flip m into e =
       rw (e, length-words n 64 (invertedBy rows columns m from))
-      (size, lt-of-le-of-lt (and-le-r (getD rows m 0) inside) (rw (low, all) (word-lt n (λ _. true))), words-below n 64 (invertedBy rows columns m from))
+      (size, lt-of-le-of-lt (and-le-r (getD rows m 0) inside) (low-lt n inside size low), words-below n 64 (invertedBy rows columns m from))
 
   has-inside : (x i : ℕ) → i < n → has (bitAnd x inside) i ≡ has x i
-  has-inside x i l = has-and x inside i ∙ ap (λ t. has x i && t) (ap (λ y. has y i) low ∙ rw all (has-word n (λ _. true) i l)) ∙ and-true (has x i)
+  has-inside x i l = has-and x inside i ∙ ap (λ t. has x i && t) (low-has n inside size low i l) ∙ and-true (has x i)
 
   pub invert-more : (m : ℕ) (into out : List ℕ) → into ≡ words n 64 (invertedBy rows columns m from)
       → out ≡ words (length into) 64 (λ i j. xor (has (bitAnd (getD rows m 0) inside) i && has (getD columns m 0) j) (bit into i j))
