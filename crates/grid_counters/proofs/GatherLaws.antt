@@ -14,7 +14,7 @@ use Rattle.bits.proofs.TestLaws.{lt-or-le}
 use Rattle.bits.proofs.BitLaws.{has-and, has-or, has-shr, has-zero, has-word, is-word}
 
 -- the bits of x stand in groups of g, a group at every d places, with 0 between; and groups put side by side are the bits f
-abbrev Grouped : ℕ → ℕ → (ℕ → Bool) → ℕ → Type 0
+abbrev pub Grouped : ℕ → ℕ → (ℕ → Bool) → ℕ → Type 0
 Grouped d g f x = (p : ℕ) → p < 64 → has x p ≡ (ltb (p % d) g && f (p / d * g + p % d))
 
 -- place p, when groups of g at every d places are laid two and two together, groups of h at every b places, by a move of e places down:
@@ -63,7 +63,7 @@ module _ (d g e b h m x : ℕ) (f : ℕ → Bool) (places : Places d g e b h) (m
           (k (e + p) (s .near) ∙ ap (λ t. t && f ((e + p) / d * g + (e + p) % d)) (lt-ltb ((e + p) % d) g (s .there)))
           ∙ ap f (s .same))
 
-part : (d x q r : ℕ) → r < d → x ≡ q * d + r → (x / d ≡ q) × (x % d ≡ r)
+pub part : (d x q r : ℕ) → r < d → x ≡ q * d + r → (x / d ≡ q) × (x % d ≡ r)
 part d x q r h e = rw e (digits-div q h, digits-mod q h)
 
 -- every second bit: groups of 1 at every 2 places

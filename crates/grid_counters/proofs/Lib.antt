@@ -1,6 +1,9 @@
+pub mod ShiftLaws
 pub mod GatherLaws
+pub mod SpreadLaws
 pub mod PackLaws
 pub mod PlaneLaws
 pub mod TallyLaws
+pub mod FillLaws
 pub mod PromiseLaws
 pub mod Demands

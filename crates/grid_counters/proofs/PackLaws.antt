@@ -1,33 +1,25 @@
--- Laws of the loop that rewrites digits of any width as bytes. Assumes nothing.
+-- Laws of the width of counters, of a part of a number's digits, and of the bits past the last counter. Assumes nothing.
 use mathlib.Core.Path.{_≡_, refl, sym, ap, _∙_}
 use mathlib.Core.Bool.{Bool, true, false}
 use mathlib.Core.List.{List, [], _∷_}
 use Prim.Native.Nat.{ℕ, zero, suc, _+_, _*_, _/_, _%_, _^_, _-_, _<_, _≤_}
-use native.Mathlib.Nat.{pow-zero, pow-suc, div-lt-iff-lt-mul, lt-of-lt-of-le, mul-le-mul, mul-assoc, mul-add-mod-self-right, zero-mul, add-mul, one-mul, div-eq-of-lt, mul-one, mul-le-mul-right, div-add-mod}
+use native.Mathlib.Nat.{pow-zero, pow-suc, div-lt-iff-lt-mul, mul-le-mul, mul-assoc, mul-add-mod-self-right, zero-mul, add-mul, one-mul, div-eq-of-lt, mul-one, div-add-mod}
 use native.Mathlib.Omega.{arith}
 use native.Mathlib.Numerals.{add-one}
 use native.Mathlib.Decide.{decLt}
 use borrow.Author.Tests.{eq-eqb, ne-eqb, lt-ltb, le-ltb}
 use lib.Dec.{eqb, leb, ltb}
-use lib.ListN.{length, getD, take, drop, set, drop-of-length-le}
-use lib.Pow.{pow-pos, pow-mono, pow-add, shr-shr, field, shl-exact, shl-lt}
-use lib.Seq.{take-suc-set, take-all, getD-drop}
-use Rattle.bits.specs.Bits.{number, digits, Below}
-use Rattle.bits.proofs.DigitLaws.{number-drop, number-step, pow-mul, digits-more}
-use Rattle.rdis.specs.Packing.{width, bytesFor, packed, spareClear}
+use lib.ListN.{length, getD, take, drop, drop-of-length-le}
+use lib.Pow.{pow-pos, pow-add, shr-shr, field}
+use lib.Seq.{getD-drop}
+use Rattle.bits.specs.Bits.{number, Below}
+use Rattle.bits.proofs.DigitLaws.{number-drop, number-step, pow-mul}
+use Rattle.rdis.specs.Packing.{width, bytesFor, spareClear}
 
 -- ---- small numbers
 
 pub small : (w t : ℕ) → w ≤ 8 → t ≤ 128 → w * t ≤ 1024
 small w t h k = mul-le-mul h k
-
-pub at-least : (a j : ℕ) → 0 < a → j ≤ a * j
-at-least a j h = rw one-mul at (mul-le-mul-right j h)
-
-pub shl-byte : (x k : ℕ) → x < 256 → k < 16 → (x * 2 ^ k % 2 ^ 64 ≡ x * 2 ^ k) × (x * 2 ^ k % 2 ^ 64 < 16777216)
-shl-byte x k hx hk =
-    let e : x * 2 ^ k % 2 ^ 64 ≡ x * 2 ^ k = shl-exact 8 k 64 hx (omega arith) in
-    (e, rw e (lt-of-lt-of-le (shl-lt 8 k hx) (pow-mono {i = 8 + k} {j = 24} (omega arith))))
 
 -- ---- widths
 
@@ -89,16 +81,6 @@ window a p k j ds h l =
 pub window-more : (a q j v r : ℕ) (ds : List ℕ) → v ≡ number (2 ^ a) (take j (drop q ds)) → r ≡ getD ds (q + j) 0 * 2 ^ (a * j)
     → v + r ≡ number (2 ^ a) (take (j + 1) (drop q ds))
 window-more a q j v r ds hv hr = rw (add-one, number-take, hv, hr, getD-drop, pow-mul)
-
--- ---- the digits written
-
-pub digits-step : (k t x v : ℕ) (dst : List ℕ) → t < length dst → take t dst ≡ digits (2 ^ k) t x → v ≡ x / 2 ^ (k * t) % 2 ^ k
-    → take (t + 1) (set dst t v) ≡ digits (2 ^ k) (t + 1) x
-digits-step k t x v dst l h e = rw add-one (take-suc-set dst t v l ∙ rw (h, e, ← pow-mul k t) (sym (digits-more (2 ^ k) t x)))
-
-pub packed-done : (w t : ℕ) (cs out : List ℕ) → length out ≡ bytesFor w (length cs) → t ≡ length out → take t out ≡ digits 256 t (number (2 ^ w) cs) → out ≡ packed w cs
-unfolding packed
-packed-done w t cs out l e h = sym (take-all t out (omega arith)) ∙ h ∙ ap (λ n. digits 256 n (number (2 ^ w) cs)) (e ∙ l)
 
 -- ---- the spare bits
 

@@ -1,27 +1,27 @@
 -- Laws of the way from bytes to planes and from planes to sets. N is the number that bytes make. Assumes nothing.
 use Prim.Native.Nat.{ℕ, zero, suc, _+_, _-_, _*_, _/_, _%_, _^_, _≤_, _<_, min}
-use mathlib.Core.Path.{_≡_, refl, sym, ap, ap₂, subst, _∙_}
+use mathlib.Core.Path.{_≡_, refl, sym, ap, ap₂, _∙_}
 use mathlib.Core.Bool.{Bool, true, false, _&&_, _||_, or-false}
 use mathlib.Core.List.{List, [], _∷_}
 use mathlib.Core.Logic.{⊎-elim}
-use native.Mathlib.Nat.{div-one, mod-lt, mod-eq-of-lt, mul-comm, mul-assoc, mul-suc, add-mul, zero-mul, lt-of-le-of-lt}
+use native.Mathlib.Nat.{div-one, mod-lt, mod-eq-of-lt, mul-suc}
 use native.Mathlib.Omega.{arith}
 use borrow.Author.Tests.{le-ltb}
 use lib.Arith.{digits-lt}
-use lib.Bits.{bitAnd, bitOr, or-lt, and-lt, and-le-l, or-shifted, shifted-even}
-use lib.Dec.{eqb, ltb, lit<, lit≤}
+use lib.Bits.{bitAnd, bitOr, or-lt, and-lt, or-shifted}
+use lib.Dec.{ltb, lit<, lit≤}
 use lib.ListN.{length, getD, take, drop, length-drop}
-use lib.Pow.{pow-pos, pow-add, shl-exact, shl-shr}
+use lib.Pow.{pow-pos, pow-add, shl-exact}
 use lib.Seq.{take-all, getD-drop}
 use Rattle.bits.specs.Bits.{num, list, number, has, word, words, Below}
 use Rattle.bits.proofs.TestLaws.{lt-or-le}
-use Rattle.bits.proofs.BitLaws.{has-and, has-or, has-zero, has-low, has-high, has-shr, has-word, is-word, word-lt, word-ext}
+use Rattle.bits.proofs.BitLaws.{has-and, has-or, has-zero, has-low, has-high, has-shr, has-word, is-word, word-lt, word-ext, word-narrow}
 use Rattle.bits.proofs.ByteLaws.{words-ext}
-use Rattle.words.proofs.LowBitsLaws.{low-lt, low-has}
 use Rattle.rdis.specs.Packing.{counter}
 use Rattle.grid_sets.specs.Sets.{setsOf}
 use Rattle.grid_counters.specs.declared.planes.Planes.{Planes}
 use Rattle.grid_counters.specs.Steps.{AreBits}
+use Rattle.grid_counters.proofs.ShiftLaws.{moved-low, moved-high, masked-word, joined}
 use Rattle.grid_counters.proofs.PackLaws.{window, window-more}
 
 -- ---- eight bytes
@@ -77,25 +77,10 @@ no-second-bit : (t : ℕ) (bs : List ℕ) → has (counter 1 bs t) 1 ≡ false
 unfolding counter
 no-second-bit t bs = has-high 1 (number 256 bs / 2 ^ (1 * t) % 2 ^ 1) 1 (mod-lt _ (pow-pos 1)) (omega arith)
 
-word-join : (n k : ℕ) (f : ℕ → Bool) → word (n + k) f ≡ word k (λ i. f (n + i)) * 2 ^ n + word n f
-unfolding word
-word-join n zero f = let e : n + 0 ≡ n = omega arith in rw (e, zero-mul) (omega arith)
-word-join n (suc k) f =
-    let e : n + suc k ≡ suc (n + k) = omega arith in
-    rw (e, word-join n k f, pow-add 2 n k, add-mul) (omega (arith, swap (num (f (n + k))) (2 ^ n) (2 ^ k)))
-  where
-    swap : (a x y : ℕ) → a * (x * y) ≡ a * y * x
-    swap a x y = ap (λ z. a * z) (mul-comm x y) ∙ sym (mul-assoc a y x)
-
 -- 32 bits and 32 bits, side by side
 pub side-by-side : (x y : ℕ) (g h f : ℕ → Bool) → x ≡ word 32 g → y ≡ word 32 h → ((i : ℕ) → i < 32 → g i ≡ f i) → ((i : ℕ) → i < 32 → h i ≡ f (32 + i))
     → bitOr (y * 2 ^ 32 % 2 ^ 64) x ≡ word 64 f
-side-by-side x y g h f ex ey eg eh =
-    let low : x ≡ word 32 f = ex ∙ word-ext 32 g f eg in
-    let high : y ≡ word 32 (λ i. f (32 + i)) = ey ∙ word-ext 32 h (λ i. f (32 + i)) eh in
-    let room : y < 2 ^ 32 = rw ey (word-lt 32 h) in
-    let less : x < 2 ^ 32 = rw ex (word-lt 32 g) in
-    ap (λ z. bitOr z x) (shl-exact 32 32 64 room (omega arith)) ∙ or-shifted y 32 x less ∙ ap₂ (λ u v. u * 2 ^ 32 + v) high low ∙ sym (word-join 32 32 f)
+side-by-side x y g h f ex ey eg eh = joined 32 32 x y f (lit< tt) (lit≤ tt) (ex ∙ word-ext 32 g f eg) (ey ∙ word-ext 32 h (λ i. f (32 + i)) eh)
 
 -- bit q of a counter, at any width w: where it stands in the 64 bits x from byte p on
 at-place : (w p x : ℕ) (bs : List ℕ) → x ≡ number 256 bs / 2 ^ (8 * p) % 2 ^ 64 → (q i u : ℕ) → q < w → q + w * i < 64 → 8 * p + w * i ≡ w * u → has x (q + w * i) ≡ has (counter w bs u) q
@@ -105,7 +90,7 @@ at-place w p x bs e q i u h l s =
 
 module _ (first : ℕ) (bs : List ℕ) where
   -- counters of one bit are the bits as they stand
-  pub single-planes : first % 8 ≡ 0 → (x : ℕ) → x ≡ number 256 bs / 2 ^ (8 * (first / 8)) % 2 ^ 64 → AreBits (λ i. counter 1 bs (first + i)) (record { low = x; high = 0 })
+  pub single-planes : first % 8 ≡ 0 → (x : ℕ) → x ≡ number 256 bs / 2 ^ (8 * (first / 8)) % 2 ^ 64 → AreBits 64 (λ i. counter 1 bs (first + i)) (record { low = x; high = 0 })
   single-planes h x e = record {
     lower = is-word 64 x _ (rw e (mod-lt _ (pow-pos 64)))
         (λ i l. let here : i ≡ 0 + 1 * i = omega arith in ap (has x) here ∙ at-place 1 (first / 8) x bs e 0 i (first + i) (lit< tt) (omega arith) (omega arith));
@@ -125,26 +110,13 @@ module _ (first : ℕ) (bs : List ℕ) where
   FromEven x y r = (f : ℕ → Bool) → ((i : ℕ) → i < 32 → has x (2 * i) ≡ f i) → ((i : ℕ) → i < 32 → has y (2 * i) ≡ f (32 + i)) → r ≡ word 64 f
 
   pub double-planes : first % 8 ≡ 0 → (x y low high : ℕ) → x ≡ number 256 bs / 2 ^ (8 * (first / 4)) % 2 ^ 64 → y ≡ number 256 bs / 2 ^ (8 * (first / 4 + 8)) % 2 ^ 64
-      → FromEven x y low → FromEven (x / 2 ^ 1) (y / 2 ^ 1) high → AreBits (λ i. counter 2 bs (first + i)) (record { low = low; high = high })
+      → FromEven x y low → FromEven (x / 2 ^ 1) (y / 2 ^ 1) high → AreBits 64 (λ i. counter 2 bs (first + i)) (record { low = low; high = high })
   double-planes h x y low high ex ey p q = record {
     lower = p (λ i. has (counter 2 bs (first + i)) 0) (λ i l. low-place (first / 4) x ex i (first + i) l (omega arith)) (λ i l. low-place (first / 4 + 8) y ey i (first + (32 + i)) l (omega arith));
     higher = q (λ i. has (counter 2 bs (first + i)) 1) (λ i l. high-place (first / 4) x ex i (first + i) l (omega arith)) (λ i l. high-place (first / 4 + 8) y ey i (first + (32 + i)) l (omega arith));
   }
 
 -- ---- bits out of two words
-
--- a word moved up by k has 0 below, and its bits above
-moved-low : (x k i : ℕ) → i < k → i < 64 → has (x * 2 ^ k % 2 ^ 64) i ≡ false
-unfolding has
-moved-low x k i h l =
-    let e : k ≡ suc (k - suc i) + i = omega arith in
-    let split : x * 2 ^ k ≡ x * 2 ^ suc (k - suc i) * 2 ^ i = ap (λ y. x * 2 ^ y) e ∙ ap (λ y. x * y) (pow-add 2 (suc (k - suc i)) i) ∙ sym (mul-assoc x (2 ^ suc (k - suc i)) (2 ^ i)) in
-    has-low 64 (x * 2 ^ k) i l ∙ ap (λ y. eqb (y / 2 ^ i % 2) 1) split ∙ ap (λ y. eqb (y % 2) 1) (shl-shr (x * 2 ^ suc (k - suc i)) i) ∙ ap (λ y. eqb y 1) (shifted-even x (k - suc i))
-
-moved-high : (x k i : ℕ) → k ≤ i → i < 64 → has (x * 2 ^ k % 2 ^ 64) i ≡ has x (i - k)
-moved-high x k i h l =
-    let e : i ≡ k + (i - k) = omega arith in
-    has-low 64 (x * 2 ^ k) i l ∙ ap (has (x * 2 ^ k)) e ∙ sym (has-shr (x * 2 ^ k) k (i - k)) ∙ ap (λ y. has y (i - k)) (shl-shr x k)
 
 -- by 1 and then by 63 - a, so 64 - a in all, also where a is 0
 module _ (x a i : ℕ) (l : i < 64) (h : a < 64) where
@@ -163,21 +135,15 @@ module _ (x a i : ℕ) (l : i < 64) (h : a < 64) where
       moved-high (x * 2 ^ 1 % 2 ^ 64) (63 - a) i (omega arith) l ∙ moved-high x 1 (i - (63 - a)) (omega arith) (omega arith) ∙ ap (has x) e
 
 module _ (n first second at : ℕ) (f : ℕ → Bool) (few : n ≤ 64) (e : first ≡ word 64 f) (g : second ≡ word 64 (λ i. f (64 + i))) (mask : ℕ) (m : mask ≡ word (min n 64) (λ _. true)) where
-  -- the mask lets through what stands below n
-  masked-word : (x : ℕ) → ((i : ℕ) → i < n → has x i ≡ f (at + i)) → bitAnd mask x ≡ word n (λ i. f (at + i))
-  masked-word x h =
-      is-word n (bitAnd mask x) (λ i. f (at + i)) (lt-of-le-of-lt (and-le-l mask x) (low-lt n mask few m))
-      (λ i l. has-and mask x i ∙ ap₂ _&&_ (low-has n mask few m i l) (h i l))
-
   in-second : (i : ℕ) → i < 64 → has second i ≡ f (64 + i)
   in-second i l = ap (λ y. has y i) g ∙ has-word 64 (λ i. f (64 + i)) i l
 
   pub cut-second : at ≡ 64 → bitAnd mask second ≡ word n (λ i. f (at + i))
-  cut-second z = masked-word second (λ i l. in-second i (omega arith) ∙ ap (λ y. f (y + i)) (sym z))
+  cut-second z = masked-word n mask second few m (λ i. f (at + i)) (λ i l. in-second i (omega arith) ∙ ap (λ y. f (y + i)) (sym z))
 
   pub cut-both : at < 64 → bitAnd mask (bitOr (first / 2 ^ at) (second * 2 ^ 1 % 2 ^ 64 * 2 ^ (63 - at) % 2 ^ 64)) ≡ word n (λ i. f (at + i))
   cut-both z =
-      masked-word (bitOr (first / 2 ^ at) (second * 2 ^ 1 % 2 ^ 64 * 2 ^ (63 - at) % 2 ^ 64)) (λ i l.
+      masked-word n mask (bitOr (first / 2 ^ at) (second * 2 ^ 1 % 2 ^ 64 * 2 ^ (63 - at) % 2 ^ 64)) few m (λ i. f (at + i)) (λ i l.
       let near : i < 64 = omega arith in
       has-or (first / 2 ^ at) (moved second at i near z) i
       ∙ ⊎-elim
@@ -234,10 +200,15 @@ unfolding setsOf
 sets-by-bits n f h =
     words-ext 8 n _ _ (λ s i _ l. ap (ltb s) (ap₂ two (has-word n (λ i. has (f i) 0) i l) (has-word n (λ i. has (f i) 1) i l) ∙ two-bits (f i) (h i)))
 
--- ---- counters from the first on
+-- ---- planes of other counters
 
-pub from-first : (f : ℕ → ℕ) (p : Planes) → AreBits (λ i. f (0 + i)) p → AreBits f p
-from-first f p = subst (λ g. AreBits g p) (λ t i. f (here i t))
+-- the planes of n counters are those of more, of which the others are 0
+pub bits-as : (n m : ℕ) (f g : ℕ → ℕ) (p : Planes) → n ≤ m → ((i : ℕ) → i < n → g i ≡ f i) → ((i : ℕ) → n ≤ i → i < m → g i ≡ 0) → AreBits n f p → AreBits m g p
+bits-as n m f g p l e z b = record { lower = b .lower ∙ same 0; higher = b .higher ∙ same 1 }
   where
-    here : (i : ℕ) → 0 + i ≡ i
-    here i = omega arith
+    same : (q : ℕ) → word n (λ i. has (f i) q) ≡ word m (λ i. has (g i) q)
+    same q = sym (word-narrow n m (λ i. has (g i) q) (λ i. has (f i) q) l (λ i h. ap (λ x. has x q) (e i h)) (λ i h k. ap (λ x. has x q) (z i h k) ∙ has-zero q))
+
+-- equal counters have equal planes
+pub bits-ext : (n : ℕ) (f g : ℕ → ℕ) (p : Planes) → ((i : ℕ) → i < n → g i ≡ f i) → AreBits n f p → AreBits n g p
+bits-ext n f g p e = bits-as n n f g p (omega arith) e (λ i h l. absurd (omega arith))

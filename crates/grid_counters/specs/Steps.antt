@@ -1,10 +1,38 @@
--- What the private steps from bytes to sets say. Nobody who reads the promises needs this page. Assumes nothing.
-use Prim.Native.Nat.{ℕ}
+-- What the private steps between bytes and sets say. Nobody who reads the promises needs this page. Assumes nothing.
+use Prim.Native.Nat.{ℕ, _+_, _*_, _/_, _%_, _<_}
 use mathlib.Core.Path.{_≡_}
+use mathlib.Core.Bool.{Bool, _&&_}
+use mathlib.Core.List.{List}
+use lib.Dec.{ltb}
+use lib.ListN.{length, getD}
 use Rattle.bits.specs.Bits.{has, word}
 use Rattle.grid_counters.specs.declared.planes.Planes.{Planes}
 
--- the planes of 64 counters f
-pub record AreBits (f : ℕ → ℕ) (p : Planes) : Type 0 where
-  pub lower : p .low ≡ word 64 (λ i. has (f i) 0)
-  pub higher : p .high ≡ word 64 (λ i. has (f i) 1)
+-- the planes of n counters f
+pub record AreBits (n : ℕ) (f : ℕ → ℕ) (p : Planes) : Type 0 where
+  pub lower : p .low ≡ word n (λ i. has (f i) 0)
+  pub higher : p .high ≡ word n (λ i. has (f i) 1)
+
+-- bit p of counters f of w bits, one after the other
+abbrev pub bitOf : ℕ → (ℕ → ℕ) → ℕ → Bool
+bitOf w f p = has (f (p / w)) (p % w)
+
+-- the bits of v at the even places, with 0 between
+abbrev pub atEven : ℕ → ℕ → Bool
+atEven v p = ltb (p % 2) 1 && has v (p / 2)
+
+-- the first q bytes are made of the bits f, or all bytes where there are fewer
+abbrev pub Filled : ℕ → (ℕ → Bool) → List ℕ → Type 0
+Filled q f bs = (t : ℕ) → t < q → t < length bs → getD bs t 0 ≡ word 8 (λ k. f (8 * t + k))
+
+-- the n lowest bytes of v are stored from byte q on: where the first q bytes are made of the bits f, and v of the bits that follow, so are the first q + n
+abbrev pub Stores : ℕ → ℕ → ℕ → List ℕ → List ℕ → Type 0
+Stores q n v before after = (f : ℕ → Bool) → Filled q f before → v ≡ word 64 (λ i. f (8 * q + i)) → Filled (q + n) f after
+
+-- v has the bits of 32 counters of two bits, which are the lowest bits of two planes
+abbrev pub Pairs : ℕ → ℕ → ℕ → Type 0
+Pairs low high v = (f : ℕ → ℕ) → ((i : ℕ) → i < 32 → has low i ≡ has (f i) 0) → ((i : ℕ) → i < 32 → has high i ≡ has (f i) 1) → v ≡ word 64 (bitOf 2 f)
+
+-- 128 counters of w bits, which have these planes, are stored as far as there are bytes
+abbrev pub StoresPlanes : ℕ → Planes → Planes → List ℕ → Type 0
+StoresPlanes w first second after = (f : ℕ → ℕ) → AreBits 64 f first → AreBits 64 (λ i. f (64 + i)) second → Filled (16 * w) (bitOf w f) after

@@ -1,4 +1,5 @@
 // A block's counters in bytes: how many bytes they take, which counters bytes hold, and the bytes of the counters of levels.
+mod fill;
 mod packing;
 mod planes;
 mod tally;
@@ -100,7 +101,13 @@ pub fn pack(
     ensures { λ _. ⌜ Pack k rows columns used rowsets columnsets (now (out .entry)) (now (out .exit)) ⌝ }
 {
     if packable(k, rows, columns, used, out.len()) {
-        let counters = tally::counters(&rowsets, &columnsets, used, rows, columns);
-        packing::pack(&counters[..rows + columns], packing::width(k), out);
+        let r = tally::tally(&rowsets, used, rows);
+        let c = tally::tally(&columnsets, used, columns);
+        fill::fill(
+            out,
+            packing::width(k),
+            tally::first(r, c, rows),
+            tally::second(c, rows),
+        );
     }
 }

@@ -1,9 +1,8 @@
-// Counters packed into bytes, at any width: the digits to 256 of the number whose digits, of that many bits, the counters are.
+// Counters in bytes, at any width: how many bits a counter has, how many bytes counters take, and the bits past the last counter.
 ghost use mathlib.Core.Path.{_≡_};
-ghost use Prim.Native.Nat.{_*_, _/_, _%_, _^_, _≤_, _<_};
+ghost use Prim.Native.Nat.{_≤_};
 ghost use lib.ListN.{length, getD};
-ghost use Rattle.bits.specs.Bits.{number, Below};
-ghost use Rattle.rdis.specs.Packing.{width as widthOf, bytesFor, packed, spareClear};
+ghost use Rattle.rdis.specs.Packing.{width as widthOf, bytesFor, spareClear};
 
 // How many bits a counter has.
 pub fn width(k: usize) -> usize
@@ -27,43 +26,11 @@ fn wide(x: u8) -> usize
     x as usize
 }
 
-// The digit at `i`, moved up by `at` bits, and 0 past the end. It is below 2^24 (8 bits, moved by at most 15), so the sum of at most 16 in `byte_at` does not overflow.
-fn digit_at(s: &[u8], i: usize, at: usize) -> usize
-    requires { ⌜ at < 16 ⌝ }
-    ensures { λ r. ⌜ r ≡ getD (now (s .entry)) i 0 * 2 ^ at ⌝ }
-    ensures { λ r. ⌜ r < 16777216 ⌝ }
+// The byte at `i`, and 0 past the end.
+fn byte_at(s: &[u8], i: usize) -> usize
+    ensures { λ r. ⌜ r ≡ getD (now (s .entry)) i 0 ⌝ }
 {
-    if i < s.len() { wide(s[i]) << at } else { 0 }
-}
-
-// The byte from bit `p` on of the number whose digits, of `width` bits each, are `src`.
-fn byte_at(src: &[u8], width: usize, p: usize) -> u8
-    requires { ⌜ (0 < width) × (width ≤ 8) × (p ≤ 1024) ⌝ }
-    requires { ⌜ Below (2 ^ width) (now src) ⌝ }
-    ensures { λ r. ⌜ r ≡ number (2 ^ width) (now (src .entry)) / 2 ^ p % 256 ⌝ }
-{
-    let q = p / width;
-    let r = p % width;
-    let mut v = 0;
-    let mut j = 0;
-    while width * j < r + 8 {
-        v = v + digit_at(src, q + j, width * j);
-        j += 1;
-    }
-    ((v >> r) % 256) as u8
-}
-
-// Writes the bytes of the counters, one after the other.
-pub fn pack(counters: &[u8], width: usize, out: &mut [u8])
-    requires { ⌜ (0 < width) × (width ≤ 8) × (length (now counters) ≤ 128) × (length (now out) ≡ bytesFor width (length (now counters))) ⌝ }
-    requires { ⌜ Below (2 ^ width) (now counters) ⌝ }
-    ensures { λ _. ⌜ now (out .exit) ≡ packed width (now (counters .entry)) ⌝ }
-{
-    let mut t = 0;
-    while t < out.len() {
-        out[t] = byte_at(counters, width, 8 * t);
-        t += 1;
-    }
+    if i < s.len() { wide(s[i]) } else { 0 }
 }
 
 // The bits past the last counter are 0.
@@ -72,5 +39,5 @@ pub fn spare_clear(bytes: &[u8], width: usize, count: usize) -> bool
     ensures { λ r. ⌜ r ≡ spareClear width count (now (bytes .entry)) ⌝ }
 {
     let p = width * count;
-    digit_at(bytes, p / 8, 0) >> (p % 8) == 0
+    byte_at(bytes, p / 8) >> (p % 8) == 0
 }

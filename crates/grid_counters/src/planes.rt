@@ -79,7 +79,7 @@ fn plane(first: u64, second: u64) -> u64
 // The planes of the 64 counters from counter `first` on, with 0 past the end.
 pub fn planes_from(bytes: &[u8], width: usize, first: usize) -> Planes
     requires { ⌜ (0 < width) × (width ≤ 2) × (first % 8 ≡ 0) × (first ≤ 64) ⌝ }
-    ensures { λ r. ⌜ AreBits (λ i. counter width (now (bytes .entry)) (first + i)) r ⌝ }
+    ensures { λ r. ⌜ AreBits 64 (λ i. counter width (now (bytes .entry)) (first + i)) r ⌝ }
 {
     if width == 1 {
         return Planes {
@@ -117,7 +117,7 @@ fn thresholds(low: u64, high: u64) -> [u64; LEVELS]
 // The sets of the `n` counters from counter `at` on, of 128 whose planes these are.
 pub fn sets(first: Planes, second: Planes, at: usize, n: usize) -> [u64; LEVELS]
     requires { ⌜ (at ≤ 64) × (n ≤ 64) ⌝ }
-    ensures { λ r. ⌜ ((f : ℕ → ℕ) → ((t : ℕ) → f t < 4) → AreBits f first → AreBits (λ i. f (64 + i)) second → r ≡ setsOf n (λ i. f (at + i))) ⌝ }
+    ensures { λ r. ⌜ ((f : ℕ → ℕ) → ((t : ℕ) → f t < 4) → AreBits 64 f first → AreBits 64 (λ i. f (64 + i)) second → r ≡ setsOf n (λ i. f (at + i))) ⌝ }
 {
     thresholds(
         cut(first.low, second.low, at, n),

@@ -1,52 +1,81 @@
-// The counters of levels: how many of the sets that the levels took have each row and each column.
-use crate::COUNTERS;
+// The counters of levels as planes: how many of the sets that the levels took have each line, 64 lines at once, and the columns' counters after the rows'.
+use crate::planes::Planes;
 use grid_sets::LEVELS;
 ghost use mathlib.Core.Path.{_≡_};
-ghost use Prim.Native.Nat.{_+_, _<_, _≤_};
-ghost use lib.ListN.{length, take};
-ghost use Rattle.bits.specs.Bits.{list};
-ghost use Rattle.rdis.specs.Packing.{inOrder};
-ghost use Rattle.grid_sets.specs.Sets.{times as timesIn};
+ghost use mathlib.Core.Bool.{Bool, false};
+ghost use Prim.Native.Nat.{ℕ, _+_, _≤_};
+ghost use Rattle.bits.specs.Bits.{num, has, word};
+ghost use Rattle.grid_sets.specs.Sets.{times};
+ghost use Rattle.grid_counters.specs.Steps.{AreBits};
 
-// How many of the first `used` sets have `i`.
-fn times(sets: &[u64; LEVELS], used: usize, i: usize) -> u8
-    requires { ⌜ (used ≤ 8) × (i < 64) ⌝ }
-    ensures { λ r. ⌜ r ≡ timesIn (now (sets .entry)) used i ⌝ }
+// Counts one set more: adds 1 to the counters of its lines.
+fn with_set(p: Planes, s: u64) -> Planes
+    ensures { λ r. ⌜ ((f : ℕ → ℕ) → AreBits 64 f p → AreBits 64 (λ i. num (has s i) + f i) r) ⌝ }
 {
-    let mut n = 0u8;
+    Planes {
+        low: p.low ^ s,
+        high: p.high ^ (p.low & s),
+    }
+}
+
+// The planes of `n` lines: how many of the first `used` sets have each. The sets may have lines past them.
+pub fn tally(sets: &[u64; LEVELS], used: usize, n: usize) -> Planes
+    requires { ⌜ (used ≤ 8) × (n ≤ 64) ⌝ }
+    ensures { λ r. ⌜ AreBits n (times (now (sets .entry)) used) r ⌝ }
+{
+    let inside = words::low_bits(n);
+    let mut p = Planes { low: 0, high: 0 };
     let mut m = 0;
     while m < used {
-        n += ((sets[m] >> i) % 2) as u8;
+        p = with_set(p, sets[m]);
         m += 1;
     }
-    n
-}
-
-// Fills the counters of one kind of line: how many of the sets have each of 0, 1 and so on.
-fn tally(out: &mut [u8], sets: &[u64; LEVELS], used: usize)
-    requires { ⌜ (used ≤ 8) × (length (now out) ≤ 64) ⌝ }
-    ensures { λ _. ⌜ now (out .exit) ≡ list (length (now (out .entry))) (timesIn (now (sets .entry)) used) ⌝ }
-{
-    let mut i = 0;
-    while i < out.len() {
-        out[i] = times(sets, used, i);
-        i += 1;
+    Planes {
+        low: inside & p.low,
+        high: inside & p.high,
     }
 }
 
-// Every row's counter and then every column's: how many levels took it.
-pub fn counters(
-    rowsets: &[u64; LEVELS],
-    columnsets: &[u64; LEVELS],
-    used: usize,
-    rows: usize,
-    columns: usize,
-) -> [u8; COUNTERS]
-    requires { ⌜ (used ≤ 8) × (rows ≤ 64) × (columns ≤ 64) ⌝ }
-    ensures { λ r. ⌜ take (rows + columns) r ≡ inOrder rows columns (timesIn (now (rowsets .entry)) used) (timesIn (now (columnsets .entry)) used) ⌝ }
+// The first 64 bits of two words side by side, the second after the `at` bits of the first.
+fn front(a: u64, b: u64, at: usize) -> u64
+    requires { ⌜ at ≤ 64 ⌝ }
+    ensures { λ r. ⌜ ((f : ℕ → Bool) → a ≡ word at f → b ≡ word 64 (λ i. f (at + i)) → r ≡ word 64 f) ⌝ }
 {
-    let mut c = [0u8; COUNTERS];
-    tally(&mut c[..rows], rowsets, used);
-    tally(&mut c[rows..rows + columns], columnsets, used);
-    c
+    if at == 64 {
+        return a;
+    }
+    (b << at) | a
+}
+
+// The bits after those: the last `at` bits of the second word, and then 0.
+fn back(b: u64, at: usize) -> u64
+    requires { ⌜ at ≤ 64 ⌝ }
+    ensures { λ r. ⌜ ((f : ℕ → Bool) → b ≡ word 64 (λ i. f (at + i)) → ((t : ℕ) → at + 64 ≤ t → f t ≡ false) → r ≡ word 64 (λ i. f (64 + i))) ⌝ }
+{
+    if at == 0 {
+        return 0;
+    }
+    b >> (64 - at)
+}
+
+// The planes of the first 64 of all counters: those of `at` rows, then those of the columns.
+pub fn first(rows: Planes, columns: Planes, at: usize) -> Planes
+    requires { ⌜ at ≤ 64 ⌝ }
+    ensures { λ r. ⌜ ((f : ℕ → ℕ) → AreBits at f rows → AreBits 64 (λ i. f (at + i)) columns → AreBits 64 f r) ⌝ }
+{
+    Planes {
+        low: front(rows.low, columns.low, at),
+        high: front(rows.high, columns.high, at),
+    }
+}
+
+// The planes of the other 64.
+pub fn second(columns: Planes, at: usize) -> Planes
+    requires { ⌜ at ≤ 64 ⌝ }
+    ensures { λ r. ⌜ ((f : ℕ → ℕ) → AreBits 64 (λ i. f (at + i)) columns → ((t : ℕ) → at + 64 ≤ t → f t ≡ 0) → AreBits 64 (λ i. f (64 + i)) r) ⌝ }
+{
+    Planes {
+        low: back(columns.low, at),
+        high: back(columns.high, at),
+    }
 }

@@ -9,7 +9,7 @@ use Rattle.rdis.specs.Packing.{width, counter}
 use Rattle.grid_sets.proofs.SetLaws.{sets-ext}
 use Rattle.grid_counters.specs.Promises.{roomy}
 use Rattle.grid_counters.proofs.PackLaws.{width-some, width-few}
-use Rattle.grid_counters.proofs.PlaneLaws.{from-first}
+use Rattle.grid_counters.proofs.PlaneLaws.{bits-ext}
 use Rattle.grid_counters.proofs.PromiseLaws.{Room, has-room, not-roomy, counter-few, judged}
 use Rattle.grid_counters.proofs.unpack.Statement.{statement}
 use Rattle.grid_counters.proofs.unpack.Tie as tie
@@ -59,7 +59,7 @@ unpack-spec =
     let a = begin e .args in
     let f = counter (width (a .k)) (a .bytes .now) in
     let four = counter-few (a .k) (a .bytes .now) in
-    let first = from-first f _ (rw (w .width .ensures) at (q .before .before .before .before .planes-from .ensures)) in
+    let first = bits-ext 64 _ f _ (λ i _. ap f (omega arith)) (rw (w .width .ensures) at (q .before .before .before .before .planes-from .ensures)) in
     let second = rw (w .width .ensures) at (q .before .before .before .planes-from2 .ensures) in
     judged (a .k) (a .rows) (a .columns) (a .bytes .now) _ _ (fits e) (q .before .before .sets .ensures f four first second ∙ sets-ext (a .rows) _ f (λ i _. ap f (omega arith)))
     (q .before .sets2 .ensures f four first second) (q .spare-clear .result) (c .before .above .result) (c .refusal .result) (rw (w .width .ensures) at (q .spare-clear .ensures)) (c .before .above .ensures) (c .refusal .ensures)))

@@ -1,7 +1,6 @@
 use borrow.Author.Needs.{needs}
 use native.Mathlib.Omega.{arith}
 use denote.Ref.{now}
-use native.Mathlib.Nat.{mul-one}
 use Rattle.grid_counters.proofs.PackLaws.{small, spare-read}
 use Rattle.grid_counters.proofs.packing.spare_clear.Statement.{statement}
 use Rattle.grid_counters.proofs.packing.spare_clear.Tie as tie
@@ -14,5 +13,5 @@ spare-clear-spec =
     (λ c κs. search needs)
     (λ c. search needs)
     (λ c. let s = c .before .before in
-    rw (c .digit-at .ensures .0, mul-one)
+    rw (c .byte-at .ensures)
     (spare-read (s .args .width) (s .args .count) (now (s .args .bytes)) (s .pre .2) (λ i. c .before .shared-slice-known .given i .fits))))

@@ -18,7 +18,7 @@ planes-from-spec =
     (λ c.
     let s = c .before .before .before in
     let a = s .args in
-    subst (λ w. AreBits (λ i. counter w (a .bytes .now) (a .first + i)) (record { low = c .load .result; high = 0 })) (sym (c .before .if1 .taken))
+    subst (λ w. AreBits 64 (λ i. counter w (a .bytes .now) (a .first + i)) (record { low = c .load .result; high = 0 })) (sym (c .before .if1 .taken))
     (single-planes (a .first) (a .bytes .now) (s .pre .2) (c .load .result) (c .load .ensures)))
     -- load-requires-2
     (λ c κs. omega (arith, c .before .before .pre .3))
@@ -34,6 +34,6 @@ planes-from-spec =
     let s = l .before .before .before in
     let a = s .args in
     let two : 2 ≡ a .width = omega (arith, s .pre .0, s .pre .1, l .before .if1 .left) in
-    subst (λ w. AreBits (λ i. counter w (a .bytes .now) (a .first + i)) (record { low = c .before .plane .result; high = c .plane2 .result })) two
+    subst (λ w. AreBits 64 (λ i. counter w (a .bytes .now) (a .first + i)) (record { low = c .before .plane .result; high = c .plane2 .result })) two
     (double-planes (a .first) (a .bytes .now) (s .pre .2) (l .load2 .result) (c .before .before .load3 .result) (c .before .plane .result) (c .plane2 .result)
     (l .load2 .ensures) (c .before .before .load3 .ensures) (c .before .plane .ensures) (c .plane2 .ensures))))

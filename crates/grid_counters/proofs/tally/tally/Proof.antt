@@ -1,18 +1,18 @@
-use mathlib.Core.Path.{_≡_, refl}
-use Prim.Native.Nat.{_≤_, _-_}
+use borrow.Author.Needs.{needs}
 use native.Mathlib.Omega.{arith}
-use lib.ListN.{length, take, length-set}
-use Rattle.bits.specs.Bits.{list}
-use Rattle.bits.proofs.BoundLaws.{list-more, list-done}
+use mathlib.Core.Path.{_≡_, subst}
+use Prim.Native.Nat.{_-_, _≤_}
 use Rattle.grid_sets.specs.Sets.{times}
+use Rattle.grid_counters.specs.Steps.{AreBits}
+use Rattle.grid_counters.proofs.TallyLaws.{times-none, times-step, masked-planes}
 use Rattle.grid_counters.proofs.tally.tally.Statement.{statement}
 use Rattle.grid_counters.proofs.tally.tally.Tie as tie
 
 abbrev Inv-loop : tie.InvT-loop
-Inv-loop out₀ sets used i₀ out i = (i ≤ length out₀) × (length out ≡ length out₀) × (take i out ≡ list i (times sets used))
+Inv-loop sets used n inside p₀ m₀ p m = (m ≤ used) × AreBits 64 (times sets m) p
 
 abbrev μ-loop : tie.MeasureT-loop
-μ-loop out₀ sets used i₀ out i = length out₀ - i
+μ-loop sets used n inside p₀ m₀ p m = used - m
 
 pub tally-spec : {M : Type 1} → statement M
 tally-spec =
@@ -20,21 +20,26 @@ tally-spec =
     (tie.spec
     Inv-loop
     μ-loop
+    -- low-bits-requires
+    (λ c κs. search needs)
     -- loop-holds
-    (λ c. (omega arith, refl, unfold list in refl))
-    -- times-requires
-    (λ c κs. omega arith)
-    -- slice-write-out
-    (λ c. omega arith)
-    -- add-i
-    (λ c. omega arith)
-    -- loop-less
-    (λ c. omega arith)
+    (λ c. (omega arith, times-none (c .before .args .sets .now)))
+    -- mul-with-set, element-copy-out-with-set
+    (λ c. search needs) (λ c. search needs)
+    -- with-set-requires
+    (λ c κs. search needs)
+    -- add-m, loop-less
+    (λ c. search needs) (λ c. search needs)
     -- loop-again
-    (λ c. let l = c .before .before .loop in let a = c .before .before .before .before .args in
-    (omega arith, simp length-set (l .inv .1), list-more (l .i) (times (a .sets .now) (a .used)) (c .times .result) (l .out) (omega arith) (l .inv .2) (c .times .ensures)))
-    -- same-length
-    (λ c. c .before .loop .inv .1)
+    (λ c.
+    let l = c .before .before .before .loop in
+    let sets = c .before .before .before .before .before .args .sets .now in
+    (omega arith, times-step sets (l .m) (c .with-set .result) (c .with-set .ensures (times sets (l .m)) (l .inv .1))))
     -- returns
-    (λ c. let l = c .before .loop in let a = c .before .before .before .args in
-    list-done (l .i) (length (a .out .now)) (times (a .sets .now) (a .used)) (l .out) (l .inv .1) (omega arith) (l .inv .2)))
+    (λ c.
+    let l = c .before .before .before .loop in
+    let b = c .before .before .before .before in
+    let s = b .before in
+    let e : l .m ≡ s .args .used = omega arith in
+    masked-planes (s .args .n) (b .low-bits .result) (times (s .args .sets .now) (s .args .used)) (l .p) (s .pre .1) (b .low-bits .ensures)
+    (subst (λ m. AreBits 64 (times (s .args .sets .now) m) (l .p)) e (l .inv .1))))

@@ -1,0 +1,165 @@
+-- Laws of the way from planes to bytes: the words of the bytes' bits, and their bytes stored. Assumes nothing.
+use Prim.Native.Nat.{ℕ, _+_, _-_, _*_, _/_, _%_, _^_, _≤_, _<_}
+use mathlib.Core.Path.{_≡_, refl, sym, ap, ap₂, subst, _∙_}
+use mathlib.Core.Bool.{Bool, false, _&&_, _||_, or-false}
+use mathlib.Core.List.{List}
+use mathlib.Core.Logic.{⊎-elim}
+use native.Mathlib.Nat.{mod-lt, mod-one, div-one, mul-add-div, mul-add-mod-self-left, mul-le-mul-left}
+use native.Mathlib.Omega.{arith}
+use borrow.Author.Tests.{lt-ltb, le-ltb}
+use lib.Bits.{bitOr, or-lt}
+use lib.Dec.{lit<}
+use lib.ListN.{length, getD, set}
+use lib.Pow.{pow-pos}
+use lib.Seq.{getD-set-same, getD-set-other}
+use Rattle.bits.specs.Bits.{has, word, words, bytes, Below}
+use Rattle.bits.proofs.TestLaws.{lt-or-le}
+use Rattle.bits.proofs.BoundLaws.{list-getD}
+use Rattle.bits.proofs.BitLaws.{has-low, has-or, has-shr, has-word, word-lt, word-ext, is-word}
+use Rattle.bits.proofs.ByteLaws.{past-end}
+use Rattle.rdis.specs.Packing.{bytesFor, inOrder, packed}
+use Rattle.rdis.proofs.PackingLaws.{packed-bits, length-in-order, row-in-order, column-in-order}
+use Rattle.grid_counters.specs.declared.planes.Planes.{Planes}
+use Rattle.grid_counters.specs.Steps.{AreBits, Filled, bitOf, atEven, Stores, Pairs, StoresPlanes}
+use Rattle.grid_counters.proofs.ShiftLaws.{moved-low, moved-high}
+use Rattle.grid_counters.proofs.PlaneLaws.{bits-as, bits-ext}
+
+-- ---- counters side by side
+
+-- 64 bits from byte q on, which are those of the counters from counter t on, at any width w
+from-counter : (w t q v : ℕ) (f : ℕ → ℕ) → 0 < w → 8 * q ≡ w * t → v ≡ word 64 (λ p. has (f (t + p / w)) (p % w)) → v ≡ word 64 (λ i. bitOf w f (8 * q + i))
+from-counter w t q v f z h e =
+    e ∙ word-ext 64 _ _ (λ p _. ap₂ (λ x k. has (f x) k) (sym (ap (λ y. (y + p) / w) h ∙ mul-add-div z t p)) (sym (ap (λ y. (y + p) % w) h ∙ mul-add-mod-self-left w t p)))
+
+-- counters of one bit are their plane
+single-word : (t q v : ℕ) (f : ℕ → ℕ) → 8 * q ≡ t → v ≡ word 64 (λ i. has (f (t + i)) 0) → v ≡ word 64 (λ i. bitOf 1 f (8 * q + i))
+single-word t q v f h e =
+    from-counter 1 t q v f (lit< tt) (omega arith) (e ∙ word-ext 64 _ _ (λ p _. ap₂ (λ x k. has (f (t + x)) k) (sym (div-one p)) (sym (mod-one p))))
+
+-- a word whose bits stand at the even places
+module _ (v x : ℕ) (e : x ≡ word 64 (atEven v)) (p : ℕ) (l : p < 64) where
+  at-even : p % 2 < 1 → has x p ≡ has v (p / 2)
+  at-even h = ap (λ y. has y p) e ∙ has-word 64 (atEven v) p l ∙ ap (λ t. t && has v (p / 2)) (lt-ltb (p % 2) 1 h)
+
+  at-odd : 1 ≤ p % 2 → has x p ≡ false
+  at-odd h = ap (λ y. has y p) e ∙ has-word 64 (atEven v) p l ∙ ap (λ t. t && has v (p / 2)) (le-ltb (p % 2) 1 h)
+
+pub paired : (low high x y : ℕ) → x ≡ word 64 (atEven low) → y ≡ word 64 (atEven high) → Pairs low high (bitOr (y * 2 ^ 1 % 2 ^ 64) x)
+paired low high x y ex ey f g h =
+    is-word 64 (bitOr (y * 2 ^ 1 % 2 ^ 64) x) _ (or-lt 64 (y * 2 ^ 1 % 2 ^ 64) x (mod-lt _ (pow-pos 64)) (rw ex (word-lt 64 _)))
+    (λ p l. has-or (y * 2 ^ 1 % 2 ^ 64) x p ∙ ⊎-elim (even p l) (odd p l) (lt-or-le (p % 2) 1))
+  where
+    even : (p : ℕ) → p < 64 → p % 2 < 1 → (has (y * 2 ^ 1 % 2 ^ 64) p || has x p) ≡ bitOf 2 f p
+    even p l q =
+        let first : p % 2 ≡ 0 = omega arith in
+        ap₂ _||_ (⊎-elim (λ z. moved-low y 1 p z l) (λ z. moved-high y 1 p z l ∙ at-odd high y ey (p - 1) (omega arith) (omega arith)) (lt-or-le p 1))
+        (at-even low x ex p l q ∙ g (p / 2) (omega arith) ∙ ap (has (f (p / 2))) (sym first))
+
+    odd : (p : ℕ) → p < 64 → 1 ≤ p % 2 → (has (y * 2 ^ 1 % 2 ^ 64) p || has x p) ≡ bitOf 2 f p
+    odd p l q =
+        let second : p % 2 ≡ 1 = omega arith in
+        let same : (p - 1) / 2 ≡ p / 2 = omega arith in
+        ap₂ _||_ (moved-high y 1 p (omega arith) l ∙ at-even high y ey (p - 1) (omega arith) (omega arith) ∙ ap (has high) same) (at-odd low x ex p l q) ∙ or-false (has high (p / 2))
+        ∙ h (p / 2) (omega arith) ∙ ap (has (f (p / 2))) (sym second)
+
+pair-word : (t q v low high : ℕ) (f : ℕ → ℕ) → 8 * q ≡ 2 * t → Pairs low high v → ((i : ℕ) → i < 32 → has low i ≡ has (f (t + i)) 0) → ((i : ℕ) → i < 32 → has high i ≡ has (f (t + i)) 1)
+    → v ≡ word 64 (λ i. bitOf 2 f (8 * q + i))
+pair-word t q v low high f h p a b = from-counter 2 t q v f (lit< tt) h (p (λ i. f (t + i)) a b)
+
+-- the first 64 counters, numbered as the others are
+from-first : (f : ℕ → ℕ) (p : Planes) → AreBits 64 f p → AreBits 64 (λ i. f (0 + i)) p
+from-first f p = bits-ext 64 f (λ i. f (0 + i)) p (λ i _. ap f (omega arith))
+
+-- the halves of a plane
+module _ (x k t : ℕ) (f : ℕ → ℕ) (e : x ≡ word 64 (λ i. has (f (t + i)) k)) (i : ℕ) (l : i < 32) where
+  lower-half : has x i ≡ has (f (t + i)) k
+  lower-half = ap (λ y. has y i) e ∙ has-word 64 (λ i. has (f (t + i)) k) i (omega arith)
+
+  upper-half : has (x / 2 ^ 32) i ≡ has (f (t + 32 + i)) k
+  upper-half =
+      let there : t + (32 + i) ≡ t + 32 + i = omega arith in
+      has-shr x 32 i ∙ ap (λ y. has y (32 + i)) e ∙ has-word 64 (λ i. has (f (t + i)) k) (32 + i) (omega arith) ∙ ap (λ u. has (f u) k) there
+
+-- ---- bytes of a word
+
+module _ (q v : ℕ) (f : ℕ → Bool) (e : v ≡ word 64 (λ i. f (8 * q + i))) where
+  byte-of : (j : ℕ) → j < 8 → v / 2 ^ (8 * j) % 2 ^ 8 ≡ word 8 (λ k. f (8 * (q + j) + k))
+  byte-of j h =
+      is-word 8 (v / 2 ^ (8 * j) % 2 ^ 8) (λ k. f (8 * (q + j) + k)) (mod-lt _ (pow-pos 8))
+      (λ k l. let there : 8 * q + (8 * j + k) ≡ 8 * (q + j) + k = omega arith in
+      has-low 8 (v / 2 ^ (8 * j)) k l ∙ has-shr v (8 * j) k ∙ ap (λ y. has y (8 * j + k)) e ∙ has-word 64 (λ i. f (8 * q + i)) (8 * j + k) (omega arith) ∙ ap f there)
+
+  pub filled-more : (j : ℕ) (bs : List ℕ) → j < 8 → q + j < length bs → Filled (q + j) f bs → Filled (q + (j + 1)) f (set bs (q + j) (v / 2 ^ (8 * j) % 256))
+  filled-more j bs h l k t u w =
+      ⊎-elim (λ r. getD-set-other bs (q + j) t (v / 2 ^ (8 * j) % 256) 0 (λ z. absurd (omega arith)) ∙ k t r (omega arith))
+      (λ r. let here : q + j ≡ t = omega arith in
+      subst (λ y. getD (set bs (q + j) (v / 2 ^ (8 * j) % 256)) y 0 ≡ word 8 (λ k. f (8 * y + k))) here (getD-set-same bs (q + j) (v / 2 ^ (8 * j) % 256) 0 l ∙ byte-of j h)) (lt-or-le t (q + j))
+
+-- past the last byte there is nothing to fill
+pub filled-past : (q r : ℕ) (f : ℕ → Bool) (bs : List ℕ) → length bs ≤ q → Filled q f bs → Filled r f bs
+filled-past q r f bs h k t _ l = k t (omega arith) l
+
+filled-none : (f : ℕ → Bool) (bs : List ℕ) → Filled 0 f bs
+filled-none f bs t h l = absurd (omega arith)
+
+filled-all : (q n : ℕ) (f : ℕ → Bool) (bs : List ℕ) → length bs ≡ n → n ≤ q → Filled q f bs → bs ≡ bytes n f
+unfolding bytes words
+filled-all q n f bs e h k = list-getD n (λ i. word 8 (λ k. f (8 * i + k))) 0 bs e (λ i l. k i (omega arith) (omega arith))
+
+-- ---- counters stored
+
+pub singles-stored : (w : ℕ) (first second : Planes) (before middle after : List ℕ) → w ≡ 1 → Stores 0 8 (first .low) before middle → Stores 8 8 (second .low) middle after
+    → StoresPlanes w first second after
+singles-stored w first second before middle after e s u =
+    subst (λ w. StoresPlanes w first second after) (sym e)
+    (λ f a b. u (bitOf 1 f) (s (bitOf 1 f) (filled-none (bitOf 1 f) before) (single-word 0 0 (first .low) f refl (from-first f first a .lower))) (single-word 64 8 (second .low) f refl (b .lower)))
+
+-- 64 counters of two bits, in two words
+module _ (t q v x : ℕ) (p : Planes) (before middle after : List ℕ) (f : ℕ → ℕ) (h : 8 * q ≡ 2 * t) (b : AreBits 64 (λ i. f (t + i)) p) where
+  both-halves : Pairs (p .low) (p .high) v → Stores q 8 v before middle → Pairs (p .low / 2 ^ 32) (p .high / 2 ^ 32) x → Stores (q + 8) 8 x middle after
+      → Filled q (bitOf 2 f) before → Filled (q + 8 + 8) (bitOf 2 f) after
+  both-halves pv sv px sx k =
+      let one = pair-word t q v (p .low) (p .high) f h pv (lower-half (p .low) 0 t f (b .lower)) (lower-half (p .high) 1 t f (b .higher)) in
+      let two = pair-word (t + 32) (q + 8) x (p .low / 2 ^ 32) (p .high / 2 ^ 32) f (omega arith) px (upper-half (p .low) 0 t f (b .lower)) (upper-half (p .high) 1 t f (b .higher)) in
+      sx (bitOf 2 f) (sv (bitOf 2 f) k one) two
+
+pub pairs-stored : (w : ℕ) (first second : Planes) → w ≡ 2 → (v x y z : ℕ) (b0 b1 b2 b3 b4 : List ℕ)
+    → Pairs (first .low) (first .high) v → Stores 0 8 v b0 b1 → Pairs (first .low / 2 ^ 32) (first .high / 2 ^ 32) x → Stores 8 8 x b1 b2
+    → Pairs (second .low) (second .high) y → Stores 16 8 y b2 b3 → Pairs (second .low / 2 ^ 32) (second .high / 2 ^ 32) z → Stores 24 8 z b3 b4 → StoresPlanes w first second b4
+pairs-stored w first second e v x y z b0 b1 b2 b3 b4 pv sv px sx py sy pz sz =
+    subst (λ w. StoresPlanes w first second b4) (sym e)
+    (λ f a b.
+    both-halves 64 16 y z second b2 b3 b4 f refl b py sy pz sz (both-halves 0 0 v x first b0 b1 b2 f refl (from-first f first a) pv sv px sx (filled-none (bitOf 2 f) b0)))
+
+-- ---- all counters
+
+module _ (w m n : ℕ) (r c : ℕ → ℕ) (few : m ≤ 64) (less : n ≤ 64) where
+  abbrev cs : List ℕ
+  cs = inOrder m n r c
+
+  abbrev f : ℕ → ℕ
+  f t = getD cs t 0
+
+  past : (t : ℕ) → m + n ≤ t → f t ≡ 0
+  past t h = past-end cs t (omega (arith, length-in-order m n r c))
+
+  rows-first : (p : Planes) → AreBits m r p → AreBits m f p
+  rows-first p = bits-ext m r f p (row-in-order m n r c)
+
+  columns-after : (p : Planes) → AreBits n c p → AreBits 64 (λ j. f (m + j)) p
+  columns-after p = bits-as n 64 c (λ j. f (m + j)) p less (column-in-order m n r c) (λ j h l. past (m + j) (omega arith))
+
+  enough : bytesFor w (m + n) ≤ 16 * w
+  unfolding bytesFor
+  enough = let h : m + n ≤ 128 = omega arith in omega (arith, mul-le-mul-left w h)
+
+  -- the rows' planes and the columns', put together and stored
+  pub all-packed : 0 < w → Below (2 ^ w) cs → (rows columns first second : Planes) → AreBits m r rows → AreBits n c columns
+      → ((f : ℕ → ℕ) → AreBits m f rows → AreBits 64 (λ i. f (m + i)) columns → AreBits 64 f first)
+      → ((f : ℕ → ℕ) → AreBits 64 (λ i. f (m + i)) columns → ((t : ℕ) → m + 64 ≤ t → f t ≡ 0) → AreBits 64 (λ i. f (64 + i)) second)
+      → (after : List ℕ) → length after ≡ bytesFor w (m + n) → (v : ℕ) → v ≡ w → StoresPlanes v first second after → after ≡ packed w cs
+  all-packed z b rows columns first second hr hc one two after l v e s =
+      let start = one f (rows-first rows hr) (columns-after columns hc) in
+      let rest = two f (columns-after columns hc) (λ t h. past t (omega arith)) in
+      filled-all (16 * w) (bytesFor w (m + n)) (bitOf w f) after l enough (subst (λ x. StoresPlanes x first second after) e s f start rest)
+      ∙ ap (λ k. bytes (bytesFor w k) (bitOf w f)) (sym (length-in-order m n r c)) ∙ sym (packed-bits w cs z b)

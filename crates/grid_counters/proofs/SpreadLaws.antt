@@ -1,0 +1,134 @@
+-- Laws of bits that are spread: the 32 lowest bits of a word at its even places, by five steps, each of which undoes a fold of GatherLaws. Assumes nothing.
+use Prim.Native.Nat.{ℕ, zero, suc, _+_, _-_, _*_, _/_, _%_, _^_, _≤_, _<_}
+use mathlib.Core.Path.{_≡_, refl, sym, ap, ap₂, _∙_}
+use mathlib.Core.Bool.{Bool, false, _&&_, _||_, or-false}
+use mathlib.Core.Logic.{⊎-elim}
+use native.Mathlib.Nat.{lt-of-le-of-lt, mod-lt, div-add-mod, mul-assoc, mul-comm, suc-mul, zero-mul}
+use native.Mathlib.Omega.{arith}
+use borrow.Author.Tests.{lt-ltb, le-ltb}
+use lib.Bits.{bitAnd, bitOr, and-le-l}
+use lib.Dec.{ltb, lit<, lit≤}
+use Rattle.bits.specs.Bits.{has, word}
+use Rattle.bits.proofs.TestLaws.{lt-or-le}
+use Rattle.bits.proofs.BitLaws.{has-and, has-or, has-word, is-word}
+use Rattle.grid_counters.specs.Steps.{atEven}
+use Rattle.grid_counters.proofs.ShiftLaws.{moved-low, moved-high}
+use Rattle.grid_counters.proofs.GatherLaws.{Grouped, part}
+
+-- groups of 2 g at every 2 d places become groups of g at every d places: the upper half of each moves up by d - g
+module _ (d g m x : ℕ) (f : ℕ → Bool) (some : 0 < d) (wide : 2 * g ≤ d) (mask : m ≡ word 64 (λ p. ltb (p % d) g)) (k : Grouped (2 * d) (2 * g) f x) where
+  -- at place p, which is the place a of pair t of the groups to be
+  module _ (p t a : ℕ) (l : p < 64) (low : a < 2 * d) (split : p ≡ t * (2 * d) + a) where
+    abbrev up : ℕ
+    up = x * 2 ^ (d - g) % 2 ^ 64
+
+    abbrev Goal : Type 0
+    Goal = (ltb (p % d) g && (has x p || has up p)) ≡ (ltb (p % d) g && f (p / d * g + p % d))
+
+    twice : t * (2 * d) ≡ 2 * t * d
+    twice = sym (mul-assoc t 2 d) ∙ ap (λ y. y * d) (mul-comm t 2)
+
+    doubled : t * (2 * g) ≡ 2 * t * g
+    doubled = sym (mul-assoc t 2 g) ∙ ap (λ y. y * g) (mul-comm t 2)
+
+    -- a bit of x, by its place in a group
+    bit : (q u b : ℕ) → q < 64 → b < 2 * d → q ≡ u * (2 * d) + b → has x q ≡ (ltb b (2 * g) && f (u * (2 * g) + b))
+    bit q u b h r e = let (y, z) = part (2 * d) q u b r e in k q h ∙ rw (y, z)
+
+    none : (q u b : ℕ) → q < 64 → b < 2 * d → q ≡ u * (2 * d) + b → 2 * g ≤ b → has x q ≡ false
+    none q u b h r e o = bit q u b h r e ∙ ap (λ y. y && f (u * (2 * g) + b)) (le-ltb b (2 * g) o)
+
+    found : (q u b : ℕ) → q < 64 → b < 2 * d → q ≡ u * (2 * d) + b → b < 2 * g → has x q ≡ f (u * (2 * g) + b)
+    found q u b h r e o = bit q u b h r e ∙ ap (λ y. y && f (u * (2 * g) + b)) (lt-ltb b (2 * g) o)
+
+    out : g ≤ p % d → Goal
+    out h = rw (le-ltb (p % d) g h)
+
+    -- in a lower half: it is where it was, and nothing is moved there
+    stays : a < g → Goal
+    stays h =
+        let (y, z) = part d p (2 * t) a (omega arith) (omega (arith, split, twice)) in
+        ap₂ (λ u v. ltb (p % d) g && (u || v)) (found p t a l low split (omega arith)) (⊎-elim (λ q. moved-low x (d - g) p q l) above (lt-or-le p (d - g)))
+        ∙ ap (λ u. ltb (p % d) g && u) (or-false (f (t * (2 * g) + a)) ∙ ap f (rw (y, z) (omega (arith, doubled))))
+      where
+        before : (u : ℕ) → p ≡ u * (2 * d) + a → d - g ≤ p → has x (p - (d - g)) ≡ false
+        before zero e q = absurd (omega (arith, zero-mul (2 * d)))
+        before (suc u) e q = none (p - (d - g)) u (d + g + a) (omega arith) (omega arith) (omega (arith, suc-mul u (2 * d))) (omega arith)
+
+        above : d - g ≤ p → has up p ≡ false
+        above q = moved-high x (d - g) p q l ∙ before t split q
+
+    -- in an upper half: it is moved there, and nothing was there
+    moves : d ≤ a → a < d + g → Goal
+    moves h o =
+        let (y, z) = part d p (suc (2 * t)) (a - d) (omega arith) (omega (arith, split, twice, suc-mul (2 * t) d)) in
+        ap₂ (λ u v. ltb (p % d) g && (u || v)) (none p t a l low split (omega arith))
+        (moved-high x (d - g) p (omega (arith, split)) l ∙ found (p - (d - g)) t (a - (d - g)) (omega arith) (omega arith) (omega (arith, split)) (omega arith))
+        ∙ ap (λ u. ltb (p % d) g && f u) (rw (y, z) (omega (arith, doubled, suc-mul (2 * t) g)))
+
+    -- between the groups
+    between : g ≤ a → (d ≤ a → d + g ≤ a) → Goal
+    between h o =
+        ⊎-elim (λ q. out (rw (part d p (2 * t) a q (omega (arith, split, twice)) .1) h))
+        (λ q. out (rw (part d p (suc (2 * t)) (a - d) (omega arith) (omega (arith, split, twice, suc-mul (2 * t) d)) .1) (omega (arith, o q)))) (lt-or-le a d)
+
+    at-place : Goal
+    at-place =
+        ⊎-elim stays (λ h. ⊎-elim (λ q. between h (λ r. absurd (omega arith)))
+        (λ q. ⊎-elim (moves q) (λ r. between h (λ _. r)) (lt-or-le a (d + g))) (lt-or-le a d)) (lt-or-le a g)
+
+  spread : Grouped d g f (bitAnd m (bitOr x (x * 2 ^ (d - g) % 2 ^ 64)))
+  spread p l =
+      let whole = div-add-mod p (2 * d) in
+      has-and m (bitOr x (x * 2 ^ (d - g) % 2 ^ 64)) p
+      ∙ ap₂ _&&_ (ap (λ y. has y p) mask ∙ has-word 64 (λ p. ltb (p % d) g) p l) (has-or x (x * 2 ^ (d - g) % 2 ^ 64) p)
+      ∙ at-place p (p / (2 * d)) (p % (2 * d)) l (mod-lt p (omega arith)) (omega (arith, mul-comm (2 * d) (p / (2 * d))))
+
+-- ---- the even places
+
+-- the 32 lowest bits are one group, and groups of 1 at every 2 places are the bits at the even places
+module _ (v m0 : ℕ) where
+  one-group : m0 ≡ word 64 (λ p. ltb (p % 64) 32) → Grouped 64 32 (has v) (bitAnd m0 v)
+  one-group mask p l =
+      let e : p / 64 * 32 + p % 64 ≡ p = omega arith in
+      has-and m0 v p ∙ ap₂ _&&_ (ap (λ y. has y p) mask ∙ has-word 64 (λ p. ltb (p % 64) 32) p l) (ap (has v) (sym e))
+
+  even-places : (x : ℕ) → x < 2 ^ 64 → Grouped 2 1 (has v) x → x ≡ word 64 (atEven v)
+  even-places x h k =
+      is-word 64 x (atEven v) h
+      (λ p l. k p l ∙ ⊎-elim (λ q. let e : p / 2 * 1 + p % 2 ≡ p / 2 = omega arith in ap (λ y. ltb (p % 2) 1 && has v y) e) (λ q. rw (le-ltb (p % 2) 1 q)) (lt-or-le (p % 2) 1))
+
+module _ (a m1 m2 m3 m4 m5 : ℕ) where
+  abbrev a1 : ℕ
+  a1 = bitAnd m1 (bitOr a (a * 2 ^ 16 % 2 ^ 64))
+
+  abbrev a2 : ℕ
+  a2 = bitAnd m2 (bitOr a1 (a1 * 2 ^ 8 % 2 ^ 64))
+
+  abbrev a3 : ℕ
+  a3 = bitAnd m3 (bitOr a2 (a2 * 2 ^ 4 % 2 ^ 64))
+
+  abbrev a4 : ℕ
+  a4 = bitAnd m4 (bitOr a3 (a3 * 2 ^ 2 % 2 ^ 64))
+
+  abbrev a5 : ℕ
+  a5 = bitAnd m5 (bitOr a4 (a4 * 2 ^ 1 % 2 ^ 64))
+
+  steps : m1 ≡ word 64 (λ p. ltb (p % 32) 16) → m2 ≡ word 64 (λ p. ltb (p % 16) 8) → m3 ≡ word 64 (λ p. ltb (p % 8) 4)
+      → m4 ≡ word 64 (λ p. ltb (p % 4) 2) → m5 ≡ word 64 (λ p. ltb (p % 2) 1) → (f : ℕ → Bool) → Grouped 64 32 f a → Grouped 2 1 f a5
+  steps e1 e2 e3 e4 e5 f k =
+      spread 2 1 m5 a4 f (lit< tt) (lit≤ tt) e5 (spread 4 2 m4 a3 f (lit< tt) (lit≤ tt) e4 (spread 8 4 m3 a2 f (lit< tt) (lit≤ tt) e3
+      (spread 16 8 m2 a1 f (lit< tt) (lit≤ tt) e2 (spread 32 16 m1 a f (lit< tt) (lit≤ tt) e1 k))))
+
+-- the masks of the code: groups of 16, 8, 4, 2 and 1 bits
+abbrev spreadOut : ℕ → ℕ
+spreadOut a = a5 a 281470681808895 71777214294589695 1085102592571150095 3689348814741910323 6148914691236517205
+
+pub apart-are : (v : ℕ) → spreadOut (bitAnd 4294967295 v) ≡ word 64 (atEven v)
+unfolding word
+apart-are v =
+    even-places v 4294967295 (spreadOut (bitAnd 4294967295 v)) (lt-of-le-of-lt (and-le-l 6148914691236517205 _) (lit< tt))
+    (steps (bitAnd 4294967295 v) 281470681808895 71777214294589695 1085102592571150095 3689348814741910323 6148914691236517205 refl refl refl refl refl (has v) (one-group v 4294967295 refl))
+
+pub none-apart : (v : ℕ) → bitAnd 4294967295 v ≡ 0 → 0 ≡ word 64 (atEven v)
+none-apart v e = sym (ap spreadOut e) ∙ apart-are v

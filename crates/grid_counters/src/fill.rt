@@ -1,0 +1,73 @@
+// The bytes of counters whose planes are given: their bits are made 64 at once, and stored.
+use crate::planes::Planes;
+ghost use mathlib.Core.Path.{_≡_};
+ghost use Prim.Native.Nat.{_+_, _≤_, _<_};
+ghost use lib.ListN.{length};
+ghost use Rattle.bits.specs.Bits.{word};
+ghost use Rattle.grid_counters.specs.Steps.{atEven, Stores, Pairs, StoresPlanes};
+
+// The 32 lowest bits at the even places, with 0 between. In a block with few faults most of them are 0.
+fn apart(v: u64) -> u64
+    ensures { λ r. ⌜ r ≡ word 64 (atEven v) ⌝ }
+{
+    let a = 0xffff_ffff & v;
+    if a == 0 {
+        return 0;
+    }
+    let b = 0x0000_ffff_0000_ffff & (a | (a << 16));
+    let c = 0x00ff_00ff_00ff_00ff & (b | (b << 8));
+    let d = 0x0f0f_0f0f_0f0f_0f0f & (c | (c << 4));
+    let e = 0x3333_3333_3333_3333 & (d | (d << 2));
+    0x5555_5555_5555_5555 & (e | (e << 1))
+}
+
+// 32 counters of two bits, side by side: the 32 lowest bits of two planes.
+fn pairs(low: u64, high: u64) -> u64
+    ensures { λ r. ⌜ Pairs low high r ⌝ }
+{
+    (apart(high) << 1) | apart(low)
+}
+
+// Stores the `n` lowest bytes of a word from byte `q` on.
+fn split(out: &mut [u8], q: usize, n: usize, v: u64)
+    requires { ⌜ (q ≤ 64) × (n ≤ 8) × (q + n ≤ length (now out)) ⌝ }
+    ensures { λ _. ⌜ Stores q n v (now (out .entry)) (now (out .exit)) ⌝ }
+{
+    let mut j = 0;
+    while j < n {
+        out[q + j] = ((v >> (8 * j)) % 256) as u8;
+        j += 1;
+    }
+}
+
+// Stores a word from byte `q` on, as far as there are bytes. Eight are stored by themselves: the compiler then makes one store of them.
+fn store(out: &mut [u8], q: usize, v: u64)
+    requires { ⌜ q ≤ 64 ⌝ }
+    ensures { λ _. ⌜ Stores q 8 v (now (out .entry)) (now (out .exit)) ⌝ }
+{
+    if out.len() <= q {
+        return;
+    }
+    let n = out.len() - q;
+    if n < 8 {
+        split(out, q, n, v);
+    } else {
+        split(out, q, 8, v);
+    }
+}
+
+// Stores 128 counters, which have these planes, as far as there are bytes. The second 64 come after the first.
+pub fn fill(out: &mut [u8], width: usize, first: Planes, second: Planes)
+    requires { ⌜ (0 < width) × (width ≤ 2) ⌝ }
+    ensures { λ _. ⌜ StoresPlanes width first second (now (out .exit)) ⌝ }
+{
+    if width == 1 {
+        store(out, 0, first.low);
+        store(out, 8, second.low);
+        return;
+    }
+    store(out, 0, pairs(first.low, first.high));
+    store(out, 8, pairs(first.low >> 32, first.high >> 32));
+    store(out, 16, pairs(second.low, second.high));
+    store(out, 24, pairs(second.low >> 32, second.high >> 32));
+}
