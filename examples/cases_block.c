@@ -1,17 +1,10 @@
-/* The cases of grid blocks. */
-#include <stdio.h>
+/* The cases of grid blocks: a plan, a store with its counters and a read; a store with other counters; a read. */
 #include <string.h>
 
-#include "cases.h"
+#include "cases_block.h"
 
-struct block {
-    uint64_t data[ROOM], mask[ROOM], values[ROOM], cells[ROOM], out[ROOM];
-    uint8_t counters[ROOM];
-};
-
-enum { DATA, MASK, VALUES, CELLS, COUNTERS, OUT, BUFFERS };
-
-static struct block new_block(void)
+/* Old cells and counters, and an output, are only measured: they hold FILL, with bits past the last column. */
+struct block new_block(void)
 {
     struct block b;
     memset(&b, 0, sizeof b);
@@ -37,24 +30,62 @@ static size_t put_picture(const char *picture, const char *signs, uint64_t *word
     return row + 1;
 }
 
-static ernavluq_grid_write_answer write_block(size_t rows, size_t columns, size_t k, struct block *b, const size_t *lengths)
+ernavluq_grid_answer plan_block(size_t rows, size_t columns, size_t k, struct block *b, const size_t *lengths)
 {
-    return ernavluq_grid_write(rows, columns, k, b->data, lengths[DATA], b->mask, lengths[MASK], b->values, lengths[VALUES], b->cells, lengths[CELLS],
-        b->counters, lengths[COUNTERS]);
+    return ernavluq_grid_plan(rows, columns, k, b->data, lengths[DATA], b->mask, lengths[MASK], b->values, lengths[VALUES], b->counters, lengths[COUNTERS]);
 }
 
-static size_t read_block(size_t rows, size_t columns, size_t k, struct block *b, const size_t *lengths)
+ernavluq_grid_answer store_block(size_t rows, size_t columns, size_t k, struct block *b, const size_t *lengths)
+{
+    return ernavluq_grid_store(rows, columns, k, b->data, lengths[DATA], b->mask, lengths[MASK], b->values, lengths[VALUES], b->counters, lengths[COUNTERS],
+        b->cells, lengths[CELLS]);
+}
+
+size_t read_block(size_t rows, size_t columns, size_t k, struct block *b, const size_t *lengths)
 {
     return ernavluq_grid_read(rows, columns, k, b->cells, lengths[CELLS], b->counters, lengths[COUNTERS], b->out, lengths[OUT]).number;
 }
 
-static const struct block_write {
+int answers(ernavluq_grid_answer a, size_t number, size_t levels, size_t stuck)
+{
+    return a.number == number && a.levels == levels && a.faults == stuck;
+}
+
+int same(const struct block *now, const struct block *want)
+{
+    return memcmp(now, want, sizeof *now) == 0;
+}
+
+/* The words of data and faults; the answer is how many rows they have. */
+static size_t put_block(const char *data, const char *faults, struct block *b)
+{
+    put_picture(faults, "01", b->mask);
+    put_picture(faults, "1v", b->values);
+    return put_picture(data, "1", b->data);
+}
+
+/* A store and a read: both are as expected, and where the store is accepted the read gives the data. */
+static int stored(size_t rows, size_t columns, size_t k, struct block *now, const size_t *lengths, size_t number, size_t levels, size_t stuck,
+    const char *cells)
+{
+    struct block want = *now;
+    int good;
+    if (number == 0)
+        put_picture(cells, "1", want.cells);
+    good = answers(store_block(rows, columns, k, now, lengths), number, levels, stuck) && same(now, &want);
+    if (number != 0)
+        return good;
+    memcpy(want.out, want.data, rows * sizeof *want.out);
+    return good && read_block(rows, columns, k, now, lengths) == 0 && same(now, &want);
+}
+
+static const struct block_plan {
     const char *name;
     size_t columns, k;
     const char *data, *faults; /* pictures; of the faults: 0 and 1 are stuck at that, v is a sound cell whose value bit is 1. What is expected: */
     size_t number, levels, stuck;
-    const char *counters, *cells;
-} block_writes[] = {
+    const char *counters, *cells; /* the cells after a store with these counters */
+} block_plans[] = {
     {"G1* no stuck cell", 2, 1, "10 01", ".. ..", 0, 0, 0, "00", "10 01"},
     {"G1  value bits of sound cells", 2, 1, "10 01", "vv vv", 0, 0, 0, "00", "10 01"},
     {"G2* one cell, stuck at the wrong bit", 1, 1, "1", "0", 0, 1, 1, "03", "0"},
@@ -76,29 +107,78 @@ static const struct block_write {
     {"    a bit past the last column before a loop", 2, 1, "001 00", "10 01", 3, 0, 0, "FF", ""},
 };
 
-static void try_block_write(const struct block_write *c)
+static void try_block_plan(const struct block_plan *c)
 {
     struct block now = new_block(), want;
-    size_t rows = put_picture(c->data, "1", now.data), bytes;
-    ernavluq_grid_write_answer a;
+    size_t rows = put_block(c->data, c->faults, &now), bytes;
     int good;
 
-    put_picture(c->faults, "01", now.mask);
-    put_picture(c->faults, "1v", now.values);
     want = now;
     bytes = put_hex(c->counters, want.counters);
-    if (c->number == 0)
-        put_picture(c->cells, "1", want.cells);
-    else
+    if (c->number != 0)
         memcpy(want.counters, now.counters, sizeof want.counters);
-    size_t lengths[BUFFERS] = {rows, rows, rows, rows, bytes, rows};
-    a = write_block(rows, c->columns, c->k, &now, lengths);
-    good = a.number == c->number && a.levels == c->levels && a.faults == c->stuck && memcmp(&now, &want, sizeof now) == 0;
-    if (c->number == 0) {
-        memcpy(want.out, want.data, rows * sizeof *want.out);
-        good = good && read_block(rows, c->columns, c->k, &now, lengths) == 0 && memcmp(&now, &want, sizeof now) == 0;
-    }
+    size_t lengths[BUFFERS] = {rows, rows, rows, bytes, rows, rows};
+    good = answers(plan_block(rows, c->columns, c->k, &now, lengths), c->number, c->levels, c->stuck) && same(&now, &want);
+    if (c->number == 0)
+        good = good && stored(rows, c->columns, c->k, &now, lengths, 0, c->levels, c->stuck, c->cells);
     report(c->name, good);
+}
+
+static const struct block_store {
+    const char *name;
+    size_t columns, k;
+    const char *data, *faults, *counters; /* as above, and bytes; what is expected: */
+    size_t number, levels, stuck;
+    const char *cells;
+} block_stores[] = {
+    {"G1  store, every counter 1", 2, 1, "10 01", ".. ..", "0F", 0, 1, 0, "01 10"},
+    {"G1  store, a row's counter alone", 2, 1, "10 01", ".. ..", "01", 0, 1, 0, "10 01"},
+    {"G2  store, the row's counter alone", 1, 1, "1", "0", "01", 13, 0, 0, ""},
+    {"G2  store, the column's counter alone", 1, 1, "1", "0", "02", 13, 0, 0, ""},
+    {"G2  store, both counters, stuck at the right bit", 1, 1, "1", "1", "03", 13, 0, 0, ""},
+    {"G2  store, counters 1 and 3", 1, 3, "1", "0", "0D", 0, 3, 1, "0"},
+    {"G2  store, counters 2 and 3", 1, 3, "1", "0", "0E", 13, 0, 0, ""},
+    {"G3  store, every counter 0", 2, 3, "00 00", "10 .1", "00", 13, 0, 0, ""},
+    {"G3  store, rows 3 and 1, columns 3 and 2", 2, 3, "00 00", "10 .1", "B7", 0, 3, 3, "10 11"},
+    {"G3  store, other data in the sound cell", 2, 3, "00 10", "10 .1", "96", 0, 2, 3, "10 01"},
+    {"G3  store, other data in a stuck cell", 2, 3, "10 00", "10 .1", "96", 13, 0, 0, ""},
+    {"G3  store, only the last cell would read wrong", 2, 3, "00 00", "10 .0", "96", 13, 0, 0, ""},
+    {"G6  store, row 1 has 2 in place of 3", 3, 3, "000 000 000", "10. .10 ..1", "5A 0B", 13, 0, 0, ""},
+    {"G10 store, K = 2, a row's counter is 3", 1, 2, "1", ".", "03", 4, 0, 0, ""},
+    {"G10 store, K = 2, a column's counter is 3", 1, 2, "1", ".", "0C", 4, 0, 0, ""},
+    {"G10 store, K = 2, both counters are 2", 1, 2, "1", ".", "0A", 0, 2, 0, "1"},
+    {"G10 store, K = 3, both counters are 3", 1, 3, "1", ".", "0F", 0, 3, 0, "0"},
+    {"    store, a counter above K before a stuck cell read wrong", 1, 2, "1", "0", "03", 4, 0, 0, ""},
+    {"    store, the first spare bit, K = 1", 2, 1, "00 00", ".. ..", "10", 3, 0, 0, ""},
+    {"    store, the last bit of the counters, K = 1", 2, 1, "00 00", ".. ..", "08", 0, 1, 0, "00 00"},
+    {"    store, the first spare bit, K = 2", 1, 2, "0", ".", "10", 3, 0, 0, ""},
+    {"    store, a spare bit before a counter above K", 1, 2, "0", ".", "13", 3, 0, 0, ""},
+    {"    store, data past the last column", 1, 1, "01", ".", "00", 3, 0, 0, ""},
+    {"    store, mask past the last column", 1, 1, "0", ".0", "00", 3, 0, 0, ""},
+    {"    store, values past the last column", 1, 1, "0", ".v", "00", 3, 0, 0, ""},
+    {"    store, a bit past the last column before a counter above K", 1, 2, "01", ".", "03", 3, 0, 0, ""},
+};
+
+static void try_block_store(const struct block_store *c)
+{
+    struct block now = new_block();
+    size_t rows = put_block(c->data, c->faults, &now);
+    size_t lengths[BUFFERS] = {rows, rows, rows, put_hex(c->counters, now.counters), rows, rows};
+    report(c->name, stored(rows, c->columns, c->k, &now, lengths, c->number, c->levels, c->stuck, c->cells));
+}
+
+/* A loop would read wrong by whatever counters. */
+static void try_loop(void)
+{
+    int good = 1;
+    for (int byte = 0; byte < 256; byte++) {
+        struct block now = new_block();
+        size_t lengths[BUFFERS] = {2, 2, 2, 1, 2, 2};
+        put_block("00 00", "10 01", &now);
+        now.counters[0] = (uint8_t)byte;
+        good = good && stored(2, 2, 3, &now, lengths, 13, 0, 0, "");
+    }
+    report("G5  store, a loop, all counters up to 3", good);
 }
 
 static const struct block_read {
@@ -130,88 +210,21 @@ static void try_block_read(const struct block_read *c)
 {
     struct block now = new_block(), want;
     size_t rows = put_picture(c->cells, "1", now.cells);
-    size_t lengths[BUFFERS] = {rows, rows, rows, rows, put_hex(c->counters, now.counters), rows};
+    size_t lengths[BUFFERS] = {rows, rows, rows, put_hex(c->counters, now.counters), rows, rows};
     want = now;
     if (c->number == 0)
         put_picture(c->shown, "1", want.out);
-    report(c->name, read_block(rows, c->columns, c->k, &now, lengths) == c->number && memcmp(&now, &want, sizeof now) == 0);
-}
-
-/* A write and a read of a block of zeros with these lengths: both numbers are as expected. A refusal leaves all as it was. */
-static void try_block_sizes(const char *name, size_t rows, size_t columns, size_t k, const size_t *lengths, size_t written, size_t shown)
-{
-    struct block now = new_block(), was;
-    int good;
-    memset(now.cells, 0, lengths[CELLS] * sizeof *now.cells);
-    memset(now.counters, 0, lengths[COUNTERS]);
-    was = now;
-    good = write_block(rows, columns, k, &now, lengths).number == written && memcmp(&now, &was, sizeof now) == 0;
-    if (shown == 0)
-        memset(was.out, 0, lengths[OUT] * sizeof *was.out);
-    report(name, good && read_block(rows, columns, k, &now, lengths) == shown && memcmp(&now, &was, sizeof now) == 0);
-}
-
-static void try_numbers(void)
-{
-    static const size_t edges[][3] = {
-        {0, 1, 1}, {1, 1, 1}, {64, 1, 1}, {65, 1, 1}, {1, 0, 1}, {1, 64, 1}, {1, 65, 1}, {64, 64, 3}, {2, 2, 0}, {2, 2, 2}, {2, 2, 3}, {2, 2, 4},
-        {((size_t)1 << 32) + 1, 1, 1}, {1, ((size_t)1 << 32) + 1, 1}, {1, 1, ((size_t)1 << 32) + 1}, {(size_t)-1, (size_t)-1, (size_t)-1},
-    };
-    static const size_t nothing[BUFFERS] = {0};
-    char name[120];
-    for (size_t i = 0; i < sizeof edges / sizeof *edges; i++) {
-        size_t m = edges[i][0], n = edges[i][1], k = edges[i][2], rows = m > 65 ? 1 : m, columns = n > 65 ? 1 : n;
-        size_t lengths[BUFFERS] = {rows, rows, rows, rows, ERNAVLUQ_COUNTER_BYTES(rows, columns, k), rows};
-        size_t number = m < 1 || m > 64 || n < 1 || n > 64 || k < 1 || k > 3;
-        snprintf(name, sizeof name, "G9  %zu by %zu, K = %zu", m, n, k);
-        try_block_sizes(name, m, n, k, lengths, number, number);
-        snprintf(name, sizeof name, "G9  %zu by %zu, K = %zu, all lengths 0", m, n, k);
-        try_block_sizes(name, m, n, k, nothing, number ? 1 : 2, number ? 1 : 2);
-    }
-}
-
-static void try_lengths(void)
-{
-    static const char *const buffers[] = {"words of data", "words of mask", "words of values", "words of cells", "bytes of counters", "words of output"};
-    char name[120];
-    for (size_t k = 1; k <= 3; k++)
-        for (int b = 0; b < BUFFERS; b++)
-            for (int more = -1; more <= 1; more++) {
-                size_t lengths[BUFFERS] = {9, 9, 9, 9, ERNAVLUQ_COUNTER_BYTES(9, 8, k), 9};
-                lengths[b] = (size_t)((int)lengths[b] + more);
-                snprintf(name, sizeof name, "    9 by 8, K = %zu, %zu %s", k, lengths[b], buffers[b]);
-                try_block_sizes(name, 9, 8, k, lengths, more && b != OUT ? 2 : 0, more && b >= CELLS ? 2 : 0);
-            }
-    report("    NULL with length 0", ernavluq_grid_write(1, 1, 1, NULL, 0, NULL, 0, NULL, 0, NULL, 0, NULL, 0).number == ERNAVLUQ_WRONG_LENGTH
-        && ernavluq_grid_read(1, 1, 1, NULL, 0, NULL, 0, NULL, 0).number == ERNAVLUQ_WRONG_LENGTH);
-}
-
-/* Every cell of 64 by 64 is stuck at 0, for data of ones: one level takes all. And the last of 64 columns is past the last of 63. */
-static void try_whole(void)
-{
-    struct block now = new_block(), want;
-    size_t lengths[BUFFERS] = {64, 64, 64, 64, 16, 64};
-    ernavluq_grid_write_answer a;
-
-    memset(now.data, 0xFF, 64 * 8);
-    memset(now.mask, 0xFF, 64 * 8);
-    want = now;
-    report("    63 columns, bit 63", write_block(64, 63, 1, &now, lengths).number == ERNAVLUQ_BIT_PAST_END && memcmp(&now, &want, sizeof now) == 0);
-    memset(want.cells, 0, 64 * 8);
-    memset(want.counters, 0xFF, 16);
-    a = write_block(64, 64, 1, &now, lengths);
-    report("    64 columns, all stuck at the wrong bit", a.number == 0 && a.levels == 1 && a.faults == 4096 && memcmp(&now, &want, sizeof now) == 0);
-    memset(want.out, 0xFF, 64 * 8);
-    report("    64 columns, read back", read_block(64, 64, 1, &now, lengths) == 0 && memcmp(&now, &want, sizeof now) == 0);
+    report(c->name, read_block(rows, c->columns, c->k, &now, lengths) == c->number && same(&now, &want));
 }
 
 void try_blocks(void)
 {
-    for (size_t i = 0; i < sizeof block_writes / sizeof *block_writes; i++)
-        try_block_write(&block_writes[i]);
+    for (size_t i = 0; i < sizeof block_plans / sizeof *block_plans; i++)
+        try_block_plan(&block_plans[i]);
+    for (size_t i = 0; i < sizeof block_stores / sizeof *block_stores; i++)
+        try_block_store(&block_stores[i]);
+    try_loop();
     for (size_t i = 0; i < sizeof block_reads / sizeof *block_reads; i++)
         try_block_read(&block_reads[i]);
-    try_numbers();
-    try_lengths();
-    try_whole();
+    try_block_edges();
 }

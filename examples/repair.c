@@ -1,4 +1,4 @@
-/* Read this first: one row and one block of memory with stuck cells are written and read back, and one write is refused.
+/* Read this first: one row and one block of memory with stuck cells are written and read back, and two calls are refused.
  *
  *     rt staticlib ernavluq
  *     cc -std=c99 -Iinclude examples/repair.c target/staticlib/libernavluq.a -o target/repair && target/repair
@@ -20,6 +20,7 @@ static const char *in_words(size_t number)
     case ERNAVLUQ_SAME_POINTER: return "two active entries hold the same pointer";
     case ERNAVLUQ_NO_ENTRY_LEFT: return "the row has no entry left";
     case ERNAVLUQ_UNMASKABLE: return "the faults of the block cannot be masked for this data";
+    case ERNAVLUQ_MISREAD: return "by these counters a stuck cell would read wrong";
     default: return "no number that a call answers";
     }
 }
@@ -60,35 +61,44 @@ static void print_words(const char *label, const uint64_t *words, size_t count)
 }
 
 /* A grid block of 3 rows and 3 columns with five stuck cells. Each is wrong or right for the data, and here they form a chain: what mends one wrong cell
- * spoils a right one beside it. Three levels undo that; with two allowed, the same write is refused and touches nothing. */
+ * spoils a right one beside it. Three levels undo that; with two allowed, the plan is refused. Until the store no cell is touched. */
 static int repair_a_block(void)
 {
     enum { ROWS = 3, COLUMNS = 3, K = 3 };
-    const uint64_t data[ROWS] = {0, 0, 0};
+    const uint64_t data[ROWS] = {0, 0, 0}, other[ROWS] = {1, 0, 0};
     const uint64_t mask[ROWS] = {3, 6, 4};   /* cells 0 and 1 of row 0, 1 and 2 of row 1, 2 of row 2 */
     const uint64_t values[ROWS] = {1, 2, 4}; /* the first of each row is stuck at 1, the others at 0 */
-    const uint64_t before[ROWS] = {0};
-    uint64_t cells[ROWS] = {0}, out[ROWS];
+    uint64_t cells[ROWS] = {0}, before[ROWS], out[ROWS];
     uint8_t counters[ERNAVLUQ_COUNTER_BYTES(ROWS, COLUMNS, K)] = {0};
-    ernavluq_grid_write_answer refused, written;
+    ernavluq_grid_answer refused, planned, stored, misread;
     ernavluq_grid_read_answer read;
     int untouched;
 
-    refused = ernavluq_grid_write(ROWS, COLUMNS, K - 1, data, ROWS, mask, ROWS, values, ROWS, cells, ROWS, counters, sizeof counters);
-    printf("block, K = 2:  refused with number %zu: %s\n", refused.number, in_words(refused.number));
-    untouched = memcmp(cells, before, sizeof cells) == 0;
-    printf("  the cells:   %s\n", untouched ? "as before" : "altered");
+    refused = ernavluq_grid_plan(ROWS, COLUMNS, K - 1, data, ROWS, mask, ROWS, values, ROWS, counters, sizeof counters);
+    printf("plan, K = 2:   refused with number %zu: %s\n", refused.number, in_words(refused.number));
 
-    written = ernavluq_grid_write(ROWS, COLUMNS, K, data, ROWS, mask, ROWS, values, ROWS, cells, ROWS, counters, sizeof counters);
-    printf("block, K = 3:  %s; %zu levels for %zu stuck cells\n", in_words(written.number), written.levels, written.faults);
+    planned = ernavluq_grid_plan(ROWS, COLUMNS, K, data, ROWS, mask, ROWS, values, ROWS, counters, sizeof counters);
+    printf("plan, K = 3:   %s; %zu levels for %zu stuck cells\n", in_words(planned.number), planned.levels, planned.faults);
+    if (planned.number != ERNAVLUQ_ACCEPTED)
+        return 0;
+
+    stored = ernavluq_grid_store(ROWS, COLUMNS, K, data, ROWS, mask, ROWS, values, ROWS, counters, sizeof counters, cells, ROWS);
+    printf("block, stored: %s\n", in_words(stored.number));
     print_words("  the cells:  ", cells, ROWS);
 
     read = ernavluq_grid_read(ROWS, COLUMNS, K, cells, ROWS, counters, sizeof counters, out, ROWS);
     printf("block, read:   %s\n", in_words(read.number));
     print_words("  the data:   ", out, ROWS);
 
-    return refused.number == ERNAVLUQ_UNMASKABLE && untouched
-        && written.number == ERNAVLUQ_ACCEPTED && read.number == ERNAVLUQ_ACCEPTED && memcmp(out, data, sizeof data) == 0;
+    /* Other data, for which cell 0 of row 0 is stuck at the right bit: these counters would invert it, so a plan has to make new ones. */
+    memcpy(before, cells, sizeof before);
+    misread = ernavluq_grid_store(ROWS, COLUMNS, K, other, ROWS, mask, ROWS, values, ROWS, counters, sizeof counters, cells, ROWS);
+    printf("other data:    refused with number %zu: %s\n", misread.number, in_words(misread.number));
+    untouched = memcmp(cells, before, sizeof cells) == 0;
+    printf("  the cells:   %s\n", untouched ? "as before" : "altered");
+
+    return refused.number == ERNAVLUQ_UNMASKABLE && stored.number == ERNAVLUQ_ACCEPTED
+        && read.number == ERNAVLUQ_ACCEPTED && memcmp(out, data, sizeof data) == 0 && misread.number == ERNAVLUQ_MISREAD && untouched;
 }
 
 int main(void)

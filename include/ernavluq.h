@@ -1,6 +1,6 @@
 /* Repair codes for memory whose cells get stuck: the calls of libernavluq.a, for C99 and C++.
  *
- * The machine: x86-64 Linux with the System V ABI, where size_t has 64 bits. The archive links into nothing else, and needs the C library alone.
+ * The machine: x86-64 Linux with the System V ABI, where size_t has 64 bits. The archive links into nothing else, and needs memset and memcpy alone.
  *
  * What may be passed: everything. A buffer may have any length, NULL with length 0 included, and a number may be any number. Every call ends. It does its
  * work and answers number 0, or it answers the number of one refusal; then every count in the answer is 0 and no buffer is altered. If several refusals
@@ -33,8 +33,9 @@ enum ernavluq_refusal {
     ERNAVLUQ_BIT_PAST_END = 3,  /* a grid word has a bit past the last column, or a spare bit of metadata or counters is 1 */
     ERNAVLUQ_MALFORMED = 4,     /* the metadata of a row is not well formed, or a counter is above K */
     ERNAVLUQ_SAME_POINTER = 5,  /* two active entries hold the same pointer */
-    ERNAVLUQ_NO_ENTRY_LEFT = 6, /* a row needs more entries than it has */
-    ERNAVLUQ_UNMASKABLE = 7     /* the faults of a block cannot be masked for this data */
+    ERNAVLUQ_NO_ENTRY_LEFT = 6, /* the kept entries of a row and those it still needs are together more than n */
+    ERNAVLUQ_UNMASKABLE = 7,    /* the faults of a block cannot be masked for this data */
+    ERNAVLUQ_MISREAD = 13       /* by the counters that a store is lent, a stuck cell would read wrong */
 };
 
 /* ---- pointer rows: 512 cells, n correction entries and a full bit
@@ -69,7 +70,8 @@ ernavluq_pointer_read_answer ernavluq_pointer_read(
 /* Writes data to a row. Takes n entries (1 to 10), the data, which cells are stuck and at what, and the row's metadata as it stands. Accepted, cells
  * holds what the cells then hold: a stuck cell its stuck value, any other its data bit. The metadata holds the entries: the active ones keep their place
  * and pointer, and each position whose cell is stuck at the wrong bit has one. Reading the two gives the data. Of the old cells only the length counts.
- * Refusals: 1 to 6, and 6 exactly where active entries and positions that need one are together more than n. */
+ * Refusals: 1 to 6, and 6 exactly where the kept entries and the positions that need a new one are together more than n;
+ * with zeros for metadata the same data may still be accepted. */
 ernavluq_pointer_write_answer ernavluq_pointer_write(
     size_t n,
     const uint8_t *data, size_t data_length,
@@ -80,9 +82,11 @@ ernavluq_pointer_write_answer ernavluq_pointer_write(
 
 /* ---- grid blocks: rows and columns of cells, a counter for each row and each column, and at most K levels
  *
+ * A plan says whether the data can be stored, and makes the counters. A store makes the cells by these counters. A read makes the data of both.
+ *
  * Data, mask, values, cells and output have one word a row: bit j is column j. A mask bit of 1 says that the cell is stuck; the value bit says at what,
  * and is ignored where the cell is sound, except past the last column, where every bit that is read has to be 0. K is not stored with the counters: a
- * read is given the K of the write. */
+ * store and a read are given the K of the plan. */
 
 #define ERNAVLUQ_MAX_ROWS 64
 #define ERNAVLUQ_MAX_COLUMNS 64
@@ -96,9 +100,32 @@ typedef struct {
 
 typedef struct {
     size_t number; /* 0, or the refusal */
-    size_t levels; /* the levels used */
+    size_t levels; /* of a plan the levels used, of a store its greatest counter */
     size_t faults; /* the stuck cells of the block */
-} ernavluq_grid_write_answer;
+} ernavluq_grid_answer;
+
+/* Plans a write of data to a block, and is lent no cells. Takes its rows and columns (1 to 64 each), K (1 to 3), the data, which cells are stuck and at
+ * what. Accepted, counters holds how many levels took each row and each column. A store with these counters and all else the same is then accepted if its
+ * cells have the right length, and answers the same. Of the old counters only the length counts.
+ * Refusals: 1, 2, 3 and 7, and 7 exactly where K levels leave a cell stuck at the wrong bit. */
+ernavluq_grid_answer ernavluq_grid_plan(
+    size_t rows, size_t columns, size_t k,
+    const uint64_t *data, size_t data_length,
+    const uint64_t *mask, size_t mask_length,
+    const uint64_t *values, size_t values_length,
+    uint8_t *counters, size_t counters_length);
+
+/* Stores data in a block. Takes what a plan takes, and the counters, whoever made them: these it does not change. Accepted, cells holds what the cells then
+ * hold: a stuck cell its stuck value, any other its data bit, inverted where the smaller of its row's and its column's counter is odd, and 0 past the last
+ * column. Reading them with these counters gives the data. Of the old cells only the length counts.
+ * Refusals: 1 to 4 and 13, and 13 exactly where some stuck cell would not read as its data bit. */
+ernavluq_grid_answer ernavluq_grid_store(
+    size_t rows, size_t columns, size_t k,
+    const uint64_t *data, size_t data_length,
+    const uint64_t *mask, size_t mask_length,
+    const uint64_t *values, size_t values_length,
+    const uint8_t *counters, size_t counters_length,
+    uint64_t *cells, size_t cells_length);
 
 /* Reads a block. Takes its rows and columns (1 to 64 each), K (1 to 3), the cells and the counters, whoever made them. Accepted, out holds each cell,
  * inverted where the smaller of its row's and its column's counter is odd, and 0 past the last column. Of out only the length counts.
@@ -108,18 +135,6 @@ ernavluq_grid_read_answer ernavluq_grid_read(
     const uint64_t *cells, size_t cells_length,
     const uint8_t *counters, size_t counters_length,
     uint64_t *out, size_t out_length);
-
-/* Writes data to a block. Takes its rows and columns (1 to 64 each), K (1 to 3), the data, which cells are stuck and at what. Accepted, cells holds what
- * the cells then hold: a stuck cell its stuck value, any other its data bit, inverted where the counters say so. The counters hold how many levels took
- * each row and each column. Reading the two gives the data. Of the old cells and the old counters only the lengths count.
- * Refusals: 1, 2, 3 and 7, and 7 exactly where K levels leave a cell stuck at the wrong bit. */
-ernavluq_grid_write_answer ernavluq_grid_write(
-    size_t rows, size_t columns, size_t k,
-    const uint64_t *data, size_t data_length,
-    const uint64_t *mask, size_t mask_length,
-    const uint64_t *values, size_t values_length,
-    uint64_t *cells, size_t cells_length,
-    uint8_t *counters, size_t counters_length);
 
 #ifdef __cplusplus
 }

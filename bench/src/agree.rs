@@ -3,7 +3,8 @@
 use second::call::Call;
 
 use crate::calls::{kind_of, Calls, KINDS, NUMBERS};
-use crate::contestant::{make, Answer, Archive, Peer, Second};
+use crate::contestant::{Answer, Archive, Peer, Second};
+use crate::input::make;
 
 /// So many calls of each kind are compared.
 pub const CALLS_OF_A_KIND: usize = 50_000;
@@ -11,8 +12,11 @@ pub const CALLS_OF_A_KIND: usize = 50_000;
 /// The seed of the calls.
 const SEED: u64 = 2026;
 
-/// How often each number from 0 to 7 came up, for each kind.
-pub type Tally = [[usize; 8]; 4];
+/// How often each number from 0 to 13 came up, for each kind.
+pub type Tally = [[usize; 14]; 5];
+
+/// The numbers that the report shows; 8 to 12 are no call's.
+const SHOWN: [usize; 9] = [0, 1, 2, 3, 4, 5, 6, 7, 13];
 
 /// Has all three make a call; the number, or what they said and did if they differ.
 fn compare(call: &Call) -> Result<usize, String> {
@@ -42,8 +46,8 @@ fn compare(call: &Call) -> Result<usize, String> {
 /// Compares so many calls of each kind; how often each number came up, or the first call on which they differ.
 pub fn agree(calls_of_a_kind: usize) -> Result<Tally, String> {
     let mut calls = Calls::new(SEED);
-    let mut compared = [0; 4];
-    let mut tally = [[0; 8]; 4];
+    let mut compared = [0; 5];
+    let mut tally = [[0; 14]; 5];
     while compared.iter().any(|count| *count < calls_of_a_kind) {
         let call = calls.next_call();
         let kind = kind_of(&call);
@@ -76,12 +80,14 @@ pub fn report() -> Result<(), String> {
     println!("archive, peer and second program agree on {CALLS_OF_A_KIND} calls of each kind; they answer");
     println!();
     print!("| {:<13} |", "number");
-    (0..8).for_each(|number| print!(" {number:>6} |"));
+    SHOWN.iter().for_each(|number| print!(" {number:>6} |"));
     println!();
-    println!("|---|{}", "---:|".repeat(8));
+    println!("|---|{}", "---:|".repeat(SHOWN.len()));
     for (name, counts) in KINDS.iter().zip(&tally) {
         print!("| {name:<13} |");
-        counts.iter().for_each(|count| print!(" {count:>6} |"));
+        SHOWN
+            .iter()
+            .for_each(|number| print!(" {:>6} |", counts[*number]));
         println!();
     }
     println!();

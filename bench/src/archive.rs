@@ -1,4 +1,4 @@
-//! The archive's four functions, as `include/ernavluq.h` declares them, over slices.
+//! The archive's five functions, as `include/ernavluq.h` declares them, over slices.
 
 /// What a read answers.
 #[repr(C)]
@@ -7,10 +7,10 @@ pub struct ReadAnswer {
     pub number: usize,
 }
 
-/// What a write answers: the number, then active and new entries, or levels and stuck cells.
+/// What a write, a plan or a store answers: the number, then active and new entries, or levels and stuck cells.
 #[repr(C)]
 #[derive(Clone, Copy)]
-pub struct WriteAnswer {
+pub struct CountedAnswer {
     pub number: usize,
     pub counts: [usize; 2],
 }
@@ -37,7 +37,7 @@ extern "C" {
         cells_length: usize,
         metadata: *mut u8,
         metadata_length: usize,
-    ) -> WriteAnswer;
+    ) -> CountedAnswer;
     fn ernavluq_grid_read(
         rows: usize,
         columns: usize,
@@ -49,7 +49,7 @@ extern "C" {
         out: *mut u64,
         out_length: usize,
     ) -> ReadAnswer;
-    fn ernavluq_grid_write(
+    fn ernavluq_grid_plan(
         rows: usize,
         columns: usize,
         k: usize,
@@ -59,11 +59,24 @@ extern "C" {
         mask_length: usize,
         values: *const u64,
         values_length: usize,
-        cells: *mut u64,
-        cells_length: usize,
         counters: *mut u8,
         counters_length: usize,
-    ) -> WriteAnswer;
+    ) -> CountedAnswer;
+    fn ernavluq_grid_store(
+        rows: usize,
+        columns: usize,
+        k: usize,
+        data: *const u64,
+        data_length: usize,
+        mask: *const u64,
+        mask_length: usize,
+        values: *const u64,
+        values_length: usize,
+        counters: *const u8,
+        counters_length: usize,
+        cells: *mut u64,
+        cells_length: usize,
+    ) -> CountedAnswer;
 }
 
 /// The archive's pointer read.
@@ -92,7 +105,7 @@ pub fn pointer_write(
     values: &[u8],
     cells: &mut [u8],
     metadata: &mut [u8],
-) -> WriteAnswer {
+) -> CountedAnswer {
     // SAFETY: as for the pointer read.
     unsafe {
         ernavluq_pointer_write(
@@ -135,19 +148,18 @@ pub fn grid_read(
     }
 }
 
-/// The archive's grid write; the numbers are rows, columns and K.
+/// The archive's grid plan; the numbers are rows, columns and K.
 #[inline(always)]
-pub fn grid_write(
+pub fn grid_plan(
     numbers: [usize; 3],
     data: &[u64],
     mask: &[u64],
     values: &[u64],
-    cells: &mut [u64],
     counters: &mut [u8],
-) -> WriteAnswer {
+) -> CountedAnswer {
     // SAFETY: as for the grid read.
     unsafe {
-        ernavluq_grid_write(
+        ernavluq_grid_plan(
             numbers[0],
             numbers[1],
             numbers[2],
@@ -157,10 +169,38 @@ pub fn grid_write(
             mask.len(),
             values.as_ptr(),
             values.len(),
-            cells.as_mut_ptr(),
-            cells.len(),
             counters.as_mut_ptr(),
             counters.len(),
+        )
+    }
+}
+
+/// The archive's grid store; the numbers are rows, columns and K.
+#[inline(always)]
+pub fn grid_store(
+    numbers: [usize; 3],
+    data: &[u64],
+    mask: &[u64],
+    values: &[u64],
+    counters: &[u8],
+    cells: &mut [u64],
+) -> CountedAnswer {
+    // SAFETY: as for the grid read.
+    unsafe {
+        ernavluq_grid_store(
+            numbers[0],
+            numbers[1],
+            numbers[2],
+            data.as_ptr(),
+            data.len(),
+            mask.as_ptr(),
+            mask.len(),
+            values.as_ptr(),
+            values.len(),
+            counters.as_ptr(),
+            counters.len(),
+            cells.as_mut_ptr(),
+            cells.len(),
         )
     }
 }

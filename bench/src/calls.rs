@@ -1,20 +1,29 @@
 //! The calls on which all three have to agree: the second program's, and rough ones of this package's own.
 
 use second::bits::bytes_that_hold;
-use second::call::{Call, GridRead, GridWrite, PointerRead, PointerWrite};
+use second::call::{Call, GridPlan, GridRead, GridStore, PointerRead, PointerWrite};
+use second::counters::{is_inverted, unpacked_counters};
 use second::make::Maker;
+use second::make_grid::shape_of;
 use second::random::Random;
 use second::{cases_grid, cases_pointer, long};
 
 /// The kinds of calls, by their tags less one.
-pub const KINDS: [&str; 4] = ["pointer write", "pointer read", "grid write", "grid read"];
+pub const KINDS: [&str; 5] = [
+    "pointer write",
+    "pointer read",
+    "grid plan",
+    "grid read",
+    "grid store",
+];
 
 /// The numbers that a call of each kind can answer.
-pub const NUMBERS: [&[usize]; 4] = [
+pub const NUMBERS: [&[usize]; 5] = [
     &[0, 1, 2, 3, 4, 5, 6],
     &[0, 1, 2, 3, 4, 5],
     &[0, 1, 2, 3, 7],
     &[0, 1, 2, 3, 4],
+    &[0, 1, 2, 3, 4, 13],
 ];
 
 /// The kind of a call.
@@ -22,8 +31,9 @@ pub fn kind_of(call: &Call) -> usize {
     match call {
         Call::PointerWrite(_) => 0,
         Call::PointerRead(_) => 1,
-        Call::GridWrite(_) => 2,
+        Call::GridPlan(_) => 2,
         Call::GridRead(_) => 3,
+        Call::GridStore(_) => 4,
     }
 }
 
@@ -54,11 +64,12 @@ impl Calls {
         if random.percent(80) {
             return self.maker.next_call();
         }
-        match random.below(4) {
+        match random.below(5) {
             0 => Call::PointerWrite(rough_pointer_write(random)),
             1 => Call::PointerRead(rough_pointer_read(random)),
-            2 => Call::GridWrite(rough_grid_write(random)),
-            _ => Call::GridRead(rough_grid_read(random)),
+            2 => Call::GridPlan(rough_grid_plan(random)),
+            3 => Call::GridRead(rough_grid_read(random)),
+            _ => Call::GridStore(rough_grid_store(random)),
         }
     }
 }
@@ -144,8 +155,8 @@ fn rough_words(random: &mut Random, numbers: [u64; 3], halvings: usize) -> Vec<u
     words
 }
 
-/// A grid write of any bits in a grid of any shape.
-fn rough_grid_write(random: &mut Random) -> GridWrite {
+/// A grid plan of any bits in a grid of any shape.
+fn rough_grid_plan(random: &mut Random) -> GridPlan {
     let (numbers, width) = rough_numbers(random);
     let halvings = random.pick(&[0, 2, 4, 5, 6, 7, 8, 9]);
     let data = rough_words(random, numbers, 0);
@@ -158,19 +169,17 @@ fn rough_grid_write(random: &mut Random) -> GridWrite {
             .zip(&data)
             .for_each(|(value, data)| *value ^= data);
     }
-    GridWrite {
+    GridPlan {
         numbers,
         data,
         mask: rough_words(random, numbers, halvings),
         values,
-        cells: random.words(numbers[0] as usize),
         counters: random.bytes(bytes_that_hold((numbers[0] + numbers[1]) as usize * width)),
     }
 }
 
-/// A grid read of any bits in a grid of any shape; the counters are any bits, mostly without spare ones.
-fn rough_grid_read(random: &mut Random) -> GridRead {
-    let (numbers, width) = rough_numbers(random);
+/// Counters of any bits, mostly without spare ones.
+fn rough_counters(random: &mut Random, numbers: [u64; 3], width: usize) -> Vec<u8> {
     let used = (numbers[0] + numbers[1]) as usize * width;
     let halvings = random.pick(&[0, 1, 3, 5]);
     let mut counters: Vec<u8> = (0..bytes_that_hold(used))
@@ -179,10 +188,65 @@ fn rough_grid_read(random: &mut Random) -> GridRead {
     if !used.is_multiple_of(8) && random.percent(90) {
         *counters.last_mut().unwrap() &= (1 << (used % 8)) - 1;
     }
+    counters
+}
+
+/// A grid read of any bits in a grid of any shape.
+fn rough_grid_read(random: &mut Random) -> GridRead {
+    let (numbers, width) = rough_numbers(random);
+    let counters = rough_counters(random, numbers, width);
     GridRead {
         numbers,
         cells: rough_words(random, numbers, 0),
         counters,
         output: random.words(numbers[0] as usize),
     }
+}
+
+/// Gives every stuck cell the value that reads as its data bit; in half the calls one cell may get the other.
+fn mask_faults(random: &mut Random, call: &mut GridStore) {
+    let shape = shape_of(call.numbers);
+    let counters = unpacked_counters(shape, &call.counters);
+    let left_out = random.below(2 * shape.rows);
+    for row in 0..shape.rows {
+        let inverted = (0..shape.columns)
+            .filter(|column| is_inverted(&counters, row, *column))
+            .fold(0, |word, column| word | 1 << column);
+        let mask = call.mask[row];
+        call.values[row] &= !mask;
+        call.values[row] |= (call.data[row] ^ inverted) & mask;
+        if row == left_out && mask != 0 {
+            let last = 1 << mask.ilog2();
+            call.values[row] ^= if random.bit() {
+                last
+            } else {
+                mask & mask.wrapping_neg()
+            };
+        }
+    }
+}
+
+/// A grid store of any bits with any counters in a grid of any shape; in half of them the counters mask the faults.
+fn rough_grid_store(random: &mut Random) -> GridStore {
+    let plan = rough_grid_plan(random);
+    let width = if plan.numbers[2] == 1 { 1 } else { 2 };
+    let mut counters = rough_counters(random, plan.numbers, width);
+    if plan.numbers[2] == 2 && random.percent(80) {
+        // No counter of 3: where both bits are 1, the low one goes.
+        counters
+            .iter_mut()
+            .for_each(|byte| *byte &= !(*byte >> 1 & 0x55));
+    }
+    let mut call = GridStore {
+        numbers: plan.numbers,
+        cells: random.words(plan.data.len()),
+        data: plan.data,
+        mask: plan.mask,
+        values: plan.values,
+        counters,
+    };
+    if random.bit() {
+        mask_faults(random, &mut call);
+    }
+    call
 }

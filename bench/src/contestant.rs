@@ -1,6 +1,6 @@
-//! The three contestants under one set of names, and the calls that each of them makes.
+//! The three contestants under one set of names.
 
-use second::call::{Call, GridRead, GridWrite, PointerRead, PointerWrite};
+use second::call::{GridPlan, GridRead, GridStore, PointerRead, PointerWrite};
 
 use crate::{archive, peer};
 
@@ -26,12 +26,13 @@ fn of_read(number: usize) -> Answer {
     }
 }
 
-/// Somebody who makes the four calls.
+/// Somebody who makes the five calls.
 pub trait Contestant {
     fn pointer_write(call: &mut PointerWrite) -> Answer;
     fn pointer_read(call: &mut PointerRead) -> Answer;
-    fn grid_write(call: &mut GridWrite) -> Answer;
+    fn grid_plan(call: &mut GridPlan) -> Answer;
     fn grid_read(call: &mut GridRead) -> Answer;
+    fn grid_store(call: &mut GridStore) -> Answer;
 }
 
 /// The archive under test.
@@ -67,16 +68,9 @@ impl Contestant for Archive {
     }
 
     #[inline(always)]
-    fn grid_write(c: &mut GridWrite) -> Answer {
+    fn grid_plan(c: &mut GridPlan) -> Answer {
         let numbers = c.numbers.map(word);
-        let answer = archive::grid_write(
-            numbers,
-            &c.data,
-            &c.mask,
-            &c.values,
-            &mut c.cells,
-            &mut c.counters,
-        );
+        let answer = archive::grid_plan(numbers, &c.data, &c.mask, &c.values, &mut c.counters);
         Answer {
             number: answer.number,
             counts: answer.counts,
@@ -87,6 +81,23 @@ impl Contestant for Archive {
     fn grid_read(c: &mut GridRead) -> Answer {
         let numbers = c.numbers.map(word);
         of_read(archive::grid_read(numbers, &c.cells, &c.counters, &mut c.output).number)
+    }
+
+    #[inline(always)]
+    fn grid_store(c: &mut GridStore) -> Answer {
+        let numbers = c.numbers.map(word);
+        let answer = archive::grid_store(
+            numbers,
+            &c.data,
+            &c.mask,
+            &c.values,
+            &c.counters,
+            &mut c.cells,
+        );
+        Answer {
+            number: answer.number,
+            counts: answer.counts,
+        }
     }
 }
 
@@ -119,16 +130,15 @@ impl Contestant for Peer {
     }
 
     #[inline(always)]
-    fn grid_write(c: &mut GridWrite) -> Answer {
+    fn grid_plan(c: &mut GridPlan) -> Answer {
         let [rows, columns, k] = c.numbers.map(word);
-        let answer = peer::grid::write(
+        let answer = peer::grid::plan(
             rows,
             columns,
             k,
             &c.data,
             &c.mask,
             &c.values,
-            &mut c.cells,
             &mut c.counters,
         );
         Answer {
@@ -148,6 +158,25 @@ impl Contestant for Peer {
             &c.counters,
             &mut c.output,
         ))
+    }
+
+    #[inline(always)]
+    fn grid_store(c: &mut GridStore) -> Answer {
+        let [rows, columns, k] = c.numbers.map(word);
+        let answer = peer::grid::store(
+            rows,
+            columns,
+            k,
+            &c.data,
+            &c.mask,
+            &c.values,
+            &c.counters,
+            &mut c.cells,
+        );
+        Answer {
+            number: answer.number,
+            counts: answer.counts,
+        }
     }
 }
 
@@ -175,15 +204,8 @@ impl Contestant for Second {
     }
 
     #[inline(always)]
-    fn grid_write(c: &mut GridWrite) -> Answer {
-        let answer = second::grid::write(
-            c.numbers,
-            &c.data,
-            &c.mask,
-            &c.values,
-            &mut c.cells,
-            &mut c.counters,
-        );
+    fn grid_plan(c: &mut GridPlan) -> Answer {
+        let answer = second::grid::plan(c.numbers, &c.data, &c.mask, &c.values, &mut c.counters);
         Answer {
             number: usize::from(answer.number),
             counts: [answer.levels, answer.stuck],
@@ -195,69 +217,20 @@ impl Contestant for Second {
         let number = second::grid::read(c.numbers, &c.cells, &c.counters, &mut c.output);
         of_read(usize::from(number))
     }
-}
 
-/// The arguments of one kind of call.
-pub trait Input: Clone {
-    /// Has a contestant make the call.
-    fn made_by<C: Contestant>(&mut self) -> Answer;
-
-    /// Gives the buffers that a call may change what they held before.
-    fn restore(&mut self, before: &Self);
-}
-
-impl Input for PointerWrite {
     #[inline(always)]
-    fn made_by<C: Contestant>(&mut self) -> Answer {
-        C::pointer_write(self)
-    }
-
-    fn restore(&mut self, before: &PointerWrite) {
-        self.cells.copy_from_slice(&before.cells);
-        self.metadata.copy_from_slice(&before.metadata);
-    }
-}
-
-impl Input for PointerRead {
-    #[inline(always)]
-    fn made_by<C: Contestant>(&mut self) -> Answer {
-        C::pointer_read(self)
-    }
-
-    fn restore(&mut self, before: &PointerRead) {
-        self.output.copy_from_slice(&before.output);
-    }
-}
-
-impl Input for GridWrite {
-    #[inline(always)]
-    fn made_by<C: Contestant>(&mut self) -> Answer {
-        C::grid_write(self)
-    }
-
-    fn restore(&mut self, before: &GridWrite) {
-        self.cells.copy_from_slice(&before.cells);
-        self.counters.copy_from_slice(&before.counters);
-    }
-}
-
-impl Input for GridRead {
-    #[inline(always)]
-    fn made_by<C: Contestant>(&mut self) -> Answer {
-        C::grid_read(self)
-    }
-
-    fn restore(&mut self, before: &GridRead) {
-        self.output.copy_from_slice(&before.output);
-    }
-}
-
-/// Has a contestant make a call of any kind.
-pub fn make<C: Contestant>(call: &mut Call) -> Answer {
-    match call {
-        Call::PointerWrite(c) => c.made_by::<C>(),
-        Call::PointerRead(c) => c.made_by::<C>(),
-        Call::GridWrite(c) => c.made_by::<C>(),
-        Call::GridRead(c) => c.made_by::<C>(),
+    fn grid_store(c: &mut GridStore) -> Answer {
+        let answer = second::grid::store(
+            c.numbers,
+            &c.data,
+            &c.mask,
+            &c.values,
+            &c.counters,
+            &mut c.cells,
+        );
+        Answer {
+            number: usize::from(answer.number),
+            counts: [answer.levels, answer.stuck],
+        }
     }
 }

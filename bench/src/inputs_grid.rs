@@ -1,30 +1,41 @@
-//! Inputs for timing the grid calls: blocks with so many stuck cells that are accepted, and blocks that are refused with 7.
+//! Inputs for timing the grid calls: blocks with so many stuck cells that are planned, stored and read, blocks whose plan is
+//! refused with 7, and stores that are refused with 13.
 
 use second::bits::bytes_that_hold;
-use second::call::{GridRead, GridWrite};
+use second::call::{GridPlan, GridRead, GridStore};
 use second::random::Random;
 
-use crate::contestant::{Input, Second};
+use crate::contestant::Second;
+use crate::input::Input;
 
 /// A place of a cell: its row and its column.
 type Place = (usize, usize);
 
+/// A block to be planned, and what its cells hold before it is stored.
+pub struct Block {
+    pub plan: GridPlan,
+    old_cells: Vec<u64>,
+}
+
 /// A square block of any data without a stuck cell; old cells and counters hold anything.
-fn sound_block(random: &mut Random, size: usize, k: usize) -> GridWrite {
+fn sound_block(random: &mut Random, size: usize, k: usize) -> Block {
     let width = if k == 1 { 1 } else { 2 };
     let line = u64::MAX >> (64 - size);
-    GridWrite {
+    let data = random.words(size).iter().map(|word| word & line).collect();
+    let values = random.words(size).iter().map(|word| word & line).collect();
+    let old_cells = random.words(size);
+    let plan = GridPlan {
         numbers: [size as u64, size as u64, k as u64],
-        data: random.words(size).iter().map(|word| word & line).collect(),
+        data,
         mask: vec![0; size],
-        values: random.words(size).iter().map(|word| word & line).collect(),
-        cells: random.words(size),
+        values,
         counters: random.bytes(bytes_that_hold(2 * size * width)),
-    }
+    };
+    Block { plan, old_cells }
 }
 
 /// Makes a cell stuck, at the wrong bit or at the right one.
-fn stick(call: &mut GridWrite, (row, column): Place, wrong: bool) {
+fn stick(call: &mut GridPlan, (row, column): Place, wrong: bool) {
     let wanted = call.data[row] >> column & 1;
     call.mask[row] |= 1 << column;
     call.values[row] &= !(1 << column);
@@ -32,7 +43,7 @@ fn stick(call: &mut GridWrite, (row, column): Place, wrong: bool) {
 }
 
 /// Makes cells stuck at any bits until so many are.
-fn stick_any(random: &mut Random, call: &mut GridWrite, count: usize) {
+fn stick_any(random: &mut Random, call: &mut GridPlan, count: usize) {
     let size = call.data.len();
     while call
         .mask
@@ -50,7 +61,7 @@ fn stick_any(random: &mut Random, call: &mut GridWrite, count: usize) {
 }
 
 /// Places a chain of 2 K + 1 cells, or a loop of four: either is refused with 7.
-fn stick_chain(random: &mut Random, call: &mut GridWrite, k: usize) {
+fn stick_chain(random: &mut Random, call: &mut GridPlan, k: usize) {
     let rows = random.order(call.data.len());
     let columns = random.order(call.data.len());
     if random.bit() {
@@ -67,54 +78,91 @@ fn stick_chain(random: &mut Random, call: &mut GridWrite, k: usize) {
 }
 
 /// The number that the second program answers.
-fn number(call: &GridWrite) -> usize {
+fn number(call: &impl Input) -> usize {
     call.clone().made_by::<Second>().number
 }
 
-/// So many blocks of this size with so many cells stuck anywhere, all of them accepted for K.
+/// So many blocks of this size with so many cells stuck anywhere, the plans of all of them accepted for K.
 pub fn accepted(
     random: &mut Random,
     count: usize,
     size: usize,
     k: usize,
     stuck: usize,
-) -> Vec<GridWrite> {
-    let mut calls = Vec::new();
-    while calls.len() < count {
-        let mut call = sound_block(random, size, k);
-        stick_any(random, &mut call, stuck);
-        if number(&call) == 0 {
-            calls.push(call);
+) -> Vec<Block> {
+    let mut blocks = Vec::new();
+    while blocks.len() < count {
+        let mut block = sound_block(random, size, k);
+        stick_any(random, &mut block.plan, stuck);
+        if number(&block.plan) == 0 {
+            blocks.push(block);
         }
+    }
+    blocks
+}
+
+/// So many blocks of this size with ten stuck cells, the plans of all of them refused with 7 for K.
+pub fn refused(random: &mut Random, count: usize, size: usize, k: usize) -> Vec<Block> {
+    let mut blocks = Vec::new();
+    while blocks.len() < count {
+        let mut block = sound_block(random, size, k);
+        stick_chain(random, &mut block.plan, k);
+        stick_any(random, &mut block.plan, 10);
+        if number(&block.plan) == 7 {
+            blocks.push(block);
+        }
+    }
+    blocks
+}
+
+/// The plans of blocks.
+pub fn plans(blocks: &[Block]) -> Vec<GridPlan> {
+    blocks.iter().map(|block| block.plan.clone()).collect()
+}
+
+/// The stores of blocks with the counters of their accepted plans.
+pub fn stores(blocks: &[Block]) -> Vec<GridStore> {
+    let mut calls = Vec::new();
+    for block in blocks {
+        let mut planned = block.plan.clone();
+        assert_eq!(planned.made_by::<Second>().number, 0);
+        calls.push(GridStore {
+            numbers: planned.numbers,
+            data: planned.data,
+            mask: planned.mask,
+            values: planned.values,
+            counters: planned.counters,
+            cells: block.old_cells.clone(),
+        });
     }
     calls
 }
 
-/// So many blocks of this size with ten stuck cells, all of them refused with 7 for K.
-pub fn refused(random: &mut Random, count: usize, size: usize, k: usize) -> Vec<GridWrite> {
-    let mut calls = Vec::new();
-    while calls.len() < count {
-        let mut call = sound_block(random, size, k);
-        stick_chain(random, &mut call, k);
-        stick_any(random, &mut call, 10);
-        if number(&call) == 7 {
-            calls.push(call);
-        }
+/// Stores with one stuck cell turned over since they were planned: refused with 13.
+pub fn misreading(random: &mut Random, stores: &[GridStore]) -> Vec<GridStore> {
+    let mut calls = stores.to_vec();
+    for call in &mut calls {
+        let stuck: Vec<usize> = (0..call.mask.len())
+            .filter(|row| call.mask[*row] != 0)
+            .collect();
+        let row = random.pick(&stuck);
+        call.values[row] ^= 1 << call.mask[row].trailing_zeros();
+        assert_eq!(number(call), 13);
     }
     calls
 }
 
-/// The reads of what accepted writes store; the outputs hold anything.
-pub fn reads(random: &mut Random, writes: &[GridWrite]) -> Vec<GridRead> {
+/// The reads of what accepted stores leave; the outputs hold anything.
+pub fn reads(random: &mut Random, stores: &[GridStore]) -> Vec<GridRead> {
     let mut calls = Vec::new();
-    for write in writes {
-        let mut after = write.clone();
+    for store in stores {
+        let mut after = store.clone();
         assert_eq!(after.made_by::<Second>().number, 0);
         calls.push(GridRead {
             numbers: after.numbers,
             cells: after.cells,
             counters: after.counters,
-            output: random.words(write.data.len()),
+            output: random.words(store.data.len()),
         });
     }
     calls

@@ -5,7 +5,8 @@ use second::call::{PointerRead, PointerWrite};
 use second::pointer::{stored_metadata, Entry, POSITIONS, ROW_BYTES};
 use second::random::Random;
 
-use crate::contestant::{Input, Second};
+use crate::contestant::Second;
+use crate::input::Input;
 
 /// What a scenario asks of a row with n entries.
 #[derive(Clone, Copy, PartialEq, Eq)]

@@ -4,6 +4,7 @@ pub mod agree;
 pub mod archive;
 pub mod calls;
 pub mod contestant;
+pub mod input;
 pub mod inputs_grid;
 pub mod inputs_pointer;
 pub mod peer;

@@ -9,10 +9,13 @@ use crate::time::{time, Rounds, Times, INPUTS};
 /// The seed of the inputs and of the orders in which they are taken.
 const SEED: u64 = 7;
 
+/// The seed of what only stores need, so that all other inputs are those of the time when one write planned and stored.
+const STORE_SEED: u64 = 13;
+
 /// Prints the head of the table.
 fn print_head() {
     println!(
-        "| {:<44} | {:>10} | {:>8} | {:>9} | {:>12} | {:>14} |",
+        "| {:<46} | {:>10} | {:>8} | {:>9} | {:>12} | {:>14} |",
         "scenario", "archive ns", "peer ns", "second ns", "archive/peer", "second/archive"
     );
     println!("|---|---:|---:|---:|---:|---:|");
@@ -22,7 +25,7 @@ fn print_head() {
 fn print_line(scenario: &str, times: Times) -> f64 {
     let ratio = times.archive / times.peer;
     println!(
-        "| {:<44} | {:>10.1} | {:>8.1} | {:>9.0} | {:>12.2} | {:>14.1} |",
+        "| {:<46} | {:>10.1} | {:>8.1} | {:>9.0} | {:>12.2} | {:>14.1} |",
         scenario,
         times.archive,
         times.peer,
@@ -33,31 +36,41 @@ fn print_line(scenario: &str, times: Times) -> f64 {
     ratio
 }
 
-/// The grid scenarios; the ratios archive/peer of the writes and of the reads.
-fn grid_lines(random: &mut Random, rounds: Rounds) -> [Vec<f64>; 2] {
-    let mut ratios = [Vec::new(), Vec::new()];
+/// The grid scenarios; the ratios archive/peer of the plans, of the stores and of the reads.
+fn grid_lines(random: &mut Random, rounds: Rounds) -> [Vec<f64>; 3] {
+    let mut ratios = [Vec::new(), Vec::new(), Vec::new()];
+    let of_stores = &mut Random::new(STORE_SEED);
     for size in [8, 16, 64] {
         for k in [1, 3] {
             let block = format!("{size} x {size}, K = {k}");
+            let mut stores = Vec::new();
             for stuck in [0, 3, 10] {
-                let writes = inputs_grid::accepted(random, INPUTS, size, k, stuck);
-                let reads = inputs_grid::reads(random, &writes);
-                let written = time(random, &writes, rounds);
-                ratios[0].push(print_line(
-                    &format!("grid write, {block}, {stuck} stuck"),
-                    written,
-                ));
+                let scenario = format!("{block}, {stuck} stuck");
+                let blocks = inputs_grid::accepted(random, INPUTS, size, k, stuck);
+                stores = inputs_grid::stores(&blocks);
+                let reads = inputs_grid::reads(random, &stores);
+                let planned = time(random, &inputs_grid::plans(&blocks), rounds);
+                ratios[0].push(print_line(&format!("grid plan, {scenario}"), planned));
+                let stored = time(of_stores, &stores, rounds);
+                ratios[1].push(print_line(&format!("grid store, {scenario}"), stored));
+                print_line(
+                    &format!("grid plan and store, {scenario}"),
+                    planned + stored,
+                );
                 let read = time(random, &reads, rounds);
-                ratios[1].push(print_line(
-                    &format!("grid read, {block}, {stuck} stuck"),
-                    read,
-                ));
+                ratios[2].push(print_line(&format!("grid read, {scenario}"), read));
             }
-            let writes = inputs_grid::refused(random, INPUTS, size, k);
-            let written = time(random, &writes, rounds);
+            let plans = inputs_grid::plans(&inputs_grid::refused(random, INPUTS, size, k));
+            let planned = time(random, &plans, rounds);
             ratios[0].push(print_line(
-                &format!("grid write, {block}, refused with 7"),
-                written,
+                &format!("grid plan, {block}, refused with 7"),
+                planned,
+            ));
+            let misreading = inputs_grid::misreading(of_stores, &stores);
+            let stored = time(of_stores, &misreading, rounds);
+            ratios[1].push(print_line(
+                &format!("grid store, {block}, refused with 13"),
+                stored,
             ));
         }
     }
@@ -108,10 +121,11 @@ pub fn report(rounds: Rounds) {
     );
     println!();
     print_head();
-    let [mut grid_writes, mut grid_reads] = grid_lines(&mut random, rounds);
+    let [mut grid_plans, mut grid_stores, mut grid_reads] = grid_lines(&mut random, rounds);
     let [mut pointer_writes, mut pointer_reads] = pointer_lines(&mut random, rounds);
     println!();
-    print_summary("grid write", &mut grid_writes);
+    print_summary("grid plan", &mut grid_plans);
+    print_summary("grid store", &mut grid_stores);
     print_summary("grid read", &mut grid_reads);
     print_summary("pointer write", &mut pointer_writes);
     print_summary("pointer read", &mut pointer_reads);

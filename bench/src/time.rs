@@ -1,11 +1,13 @@
 //! Times the three contestants in turns on the same inputs; the answer is the median of many rounds.
 
 use std::hint::black_box;
+use std::ops::Add;
 use std::time::Instant;
 
 use second::random::Random;
 
-use crate::contestant::{Archive, Contestant, Input, Peer, Second};
+use crate::contestant::{Archive, Contestant, Peer, Second};
+use crate::input::Input;
 
 /// So many different inputs a scenario.
 pub const INPUTS: usize = 256;
@@ -23,6 +25,19 @@ pub struct Times {
     pub archive: f64,
     pub peer: f64,
     pub second: f64,
+}
+
+impl Add for Times {
+    type Output = Times;
+
+    /// The times of two calls, one after the other.
+    fn add(self, other: Times) -> Times {
+        Times {
+            archive: self.archive + other.archive,
+            peer: self.peer + other.peer,
+            second: self.second + other.second,
+        }
+    }
 }
 
 /// The inputs of a scenario as they are before a call, those that calls are made on, and the order of a round.

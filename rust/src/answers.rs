@@ -20,6 +20,18 @@ pub struct PointerWriteAnswer {
     pub new: usize,
 }
 
+/// What a plan and a store of a grid block answer.
+#[repr(C)]
+#[derive(Clone, Copy, Debug, PartialEq, Eq)]
+pub struct GridAnswer {
+    /// 0, or the number of the refusal.
+    pub number: usize,
+    /// Of a plan the levels used, of a store its greatest counter.
+    pub levels: usize,
+    /// The stuck cells of the block.
+    pub faults: usize,
+}
+
 /// What a read of a grid block answers.
 #[repr(C)]
 #[derive(Clone, Copy, Debug, PartialEq, Eq)]
@@ -28,25 +40,14 @@ pub struct GridReadAnswer {
     pub number: usize,
 }
 
-/// What a write of a grid block answers.
-#[repr(C)]
-#[derive(Clone, Copy, Debug, PartialEq, Eq)]
-pub struct GridWriteAnswer {
-    /// 0, or the number of the refusal.
-    pub number: usize,
-    /// The levels used.
-    pub levels: usize,
-    /// The stuck cells of the block.
-    pub faults: usize,
-}
-
 /// The answer of any call.
 #[derive(Clone, Copy, Debug, PartialEq, Eq)]
 pub enum Answer {
     PointerRead(PointerReadAnswer),
     PointerWrite(PointerWriteAnswer),
+    GridPlan(GridAnswer),
+    GridStore(GridAnswer),
     GridRead(GridReadAnswer),
-    GridWrite(GridWriteAnswer),
 }
 
 impl Answer {
@@ -55,8 +56,9 @@ impl Answer {
         match self {
             Answer::PointerRead(answer) => answer.number,
             Answer::PointerWrite(answer) => answer.number,
+            Answer::GridPlan(answer) => answer.number,
+            Answer::GridStore(answer) => answer.number,
             Answer::GridRead(answer) => answer.number,
-            Answer::GridWrite(answer) => answer.number,
         }
     }
 }

@@ -1,5 +1,5 @@
 //! The calls of libernavluq.a as include/ernavluq.h declares them: after each pointer its length in elements.
-use crate::answers::{GridReadAnswer, GridWriteAnswer, PointerReadAnswer, PointerWriteAnswer};
+use crate::answers::{GridAnswer, GridReadAnswer, PointerReadAnswer, PointerWriteAnswer};
 
 extern "C" {
     pub fn ernavluq_pointer_read(
@@ -26,6 +26,36 @@ extern "C" {
         metadata_length: usize,
     ) -> PointerWriteAnswer;
 
+    pub fn ernavluq_grid_plan(
+        rows: usize,
+        columns: usize,
+        k: usize,
+        data: *const u64,
+        data_length: usize,
+        mask: *const u64,
+        mask_length: usize,
+        values: *const u64,
+        values_length: usize,
+        counters: *mut u8,
+        counters_length: usize,
+    ) -> GridAnswer;
+
+    pub fn ernavluq_grid_store(
+        rows: usize,
+        columns: usize,
+        k: usize,
+        data: *const u64,
+        data_length: usize,
+        mask: *const u64,
+        mask_length: usize,
+        values: *const u64,
+        values_length: usize,
+        counters: *const u8,
+        counters_length: usize,
+        cells: *mut u64,
+        cells_length: usize,
+    ) -> GridAnswer;
+
     pub fn ernavluq_grid_read(
         rows: usize,
         columns: usize,
@@ -37,20 +67,4 @@ extern "C" {
         out: *mut u64,
         out_length: usize,
     ) -> GridReadAnswer;
-
-    pub fn ernavluq_grid_write(
-        rows: usize,
-        columns: usize,
-        k: usize,
-        data: *const u64,
-        data_length: usize,
-        mask: *const u64,
-        mask_length: usize,
-        values: *const u64,
-        values_length: usize,
-        cells: *mut u64,
-        cells_length: usize,
-        counters: *mut u8,
-        counters_length: usize,
-    ) -> GridWriteAnswer;
 }

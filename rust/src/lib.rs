@@ -31,10 +31,10 @@ mod answers;
 mod ffi;
 mod refusal;
 
-pub use answers::{Answer, GridReadAnswer, GridWriteAnswer, PointerReadAnswer, PointerWriteAnswer};
+pub use answers::{Answer, GridAnswer, GridReadAnswer, PointerReadAnswer, PointerWriteAnswer};
 pub use refusal::{
-    Refusal, BIT_PAST_END, MALFORMED, NO_ENTRY_LEFT, OUT_OF_RANGE, SAME_POINTER, UNMASKABLE,
-    WRONG_LENGTH,
+    Refusal, BIT_PAST_END, MALFORMED, MISREAD, NO_ENTRY_LEFT, OUT_OF_RANGE, SAME_POINTER,
+    UNMASKABLE, WRONG_LENGTH,
 };
 
 /// The bytes of a row's data, mask, values, cells and output: position p is bit p mod 8 of byte p / 8, the lowest first.
@@ -130,7 +130,99 @@ pub fn pointer_write(
     judged(answer, Answer::PointerWrite)
 }
 
-/// Reads a block, one word a row with column j at bit j: `out` gets each cell, inverted where the smaller of its two counters is odd.
+/// Plans a write of `data` to a block with at most `k` levels, one word a row with column j at bit j: `counters` gets how many levels took each row and
+/// column. No cells are touched. A [`grid_store`] with these counters and all else the same is then refused only if its cells have another length.
+///
+/// ```
+/// // A chain of three stuck cells is too much for one level, and not for two.
+/// let (data, mask, values, mut counters) = ([0; 2], [3, 2], [1, 2], [0]);
+/// let refusal = ernavluq::grid_plan(2, 2, 1, &data, &mask, &values, &mut counters).unwrap_err();
+/// assert_eq!(refusal.to_string(), "refusal 7: the faults of the block cannot be masked for this data");
+/// let planned = ernavluq::grid_plan(2, 2, 2, &data, &mask, &values, &mut counters).unwrap();
+/// assert_eq!((planned.levels, planned.faults, counters), (2, 3, [0x96]));
+/// ```
+pub fn grid_plan(
+    rows: usize,
+    columns: usize,
+    k: usize,
+    data: &[u64],
+    mask: &[u64],
+    values: &[u64],
+    counters: &mut [u8],
+) -> Result<GridAnswer, Refusal> {
+    // SAFETY: see above.
+    let answer = unsafe {
+        ffi::ernavluq_grid_plan(
+            rows,
+            columns,
+            k,
+            data.as_ptr(),
+            data.len(),
+            mask.as_ptr(),
+            mask.len(),
+            values.as_ptr(),
+            values.len(),
+            counters.as_mut_ptr(),
+            counters.len(),
+        )
+    };
+    judged(answer, Answer::GridPlan)
+}
+
+/// Stores `data` in a block by `counters`, those of a [`grid_plan`] or any others: `cells` gets what the cells then hold. A read with the same counters gives
+/// the data. The answer's levels are the greatest counter.
+///
+/// ```
+/// # fn main() -> Result<(), ernavluq::Refusal> {
+/// use ernavluq::{grid_plan, grid_read, grid_store};
+///
+/// // One cell, stuck at 0, that should hold a 1.
+/// let (mut counters, mut cells, mut out) = ([0], [0], [0]);
+/// grid_plan(1, 1, 1, &[1], &[1], &[0], &mut counters)?;
+/// let stored = grid_store(1, 1, 1, &[1], &[1], &[0], &counters, &mut cells)?;
+/// assert_eq!((stored.levels, stored.faults), (1, 1));
+/// grid_read(1, 1, 1, &cells, &counters, &mut out)?;
+/// assert_eq!((cells, out), ([0], [1]));
+///
+/// // For a 0 these counters do not serve: the cell would be read inverted.
+/// let refusal = grid_store(1, 1, 1, &[0], &[1], &[0], &counters, &mut cells).unwrap_err();
+/// assert_eq!(refusal.to_string(), "refusal 13: by these counters a stuck cell would read wrong");
+/// # Ok(())
+/// # }
+/// ```
+#[allow(clippy::too_many_arguments)] // those of the call
+pub fn grid_store(
+    rows: usize,
+    columns: usize,
+    k: usize,
+    data: &[u64],
+    mask: &[u64],
+    values: &[u64],
+    counters: &[u8],
+    cells: &mut [u64],
+) -> Result<GridAnswer, Refusal> {
+    // SAFETY: see above.
+    let answer = unsafe {
+        ffi::ernavluq_grid_store(
+            rows,
+            columns,
+            k,
+            data.as_ptr(),
+            data.len(),
+            mask.as_ptr(),
+            mask.len(),
+            values.as_ptr(),
+            values.len(),
+            counters.as_ptr(),
+            counters.len(),
+            cells.as_mut_ptr(),
+            cells.len(),
+        )
+    };
+    judged(answer, Answer::GridStore)
+}
+
+/// Reads a block with the `k` of its plan: `out` gets each cell, inverted where the smaller of its two counters is odd.
 ///
 /// ```
 /// let mut out = [0];
@@ -160,50 +252,4 @@ pub fn grid_read(
         )
     };
     judged(answer, Answer::GridRead)
-}
-
-/// Writes `data` to a block with at most `k` levels: `cells` gets what the cells then hold, and `counters` how many levels took each row and column.
-/// A read has to be given the same `k`.
-///
-/// ```
-/// # fn main() -> Result<(), ernavluq::Refusal> {
-/// // One cell, stuck at 0, that should hold a 1.
-/// let (mut cells, mut counters, mut out) = ([0], [0], [0]);
-/// let written = ernavluq::grid_write(1, 1, 1, &[1], &[1], &[0], &mut cells, &mut counters)?;
-/// assert_eq!((written.levels, written.faults), (1, 1));
-/// ernavluq::grid_read(1, 1, 1, &cells, &counters, &mut out)?;
-/// assert_eq!((cells, out), ([0], [1]));
-/// # Ok(())
-/// # }
-/// ```
-#[allow(clippy::too_many_arguments)] // those of the call
-pub fn grid_write(
-    rows: usize,
-    columns: usize,
-    k: usize,
-    data: &[u64],
-    mask: &[u64],
-    values: &[u64],
-    cells: &mut [u64],
-    counters: &mut [u8],
-) -> Result<GridWriteAnswer, Refusal> {
-    // SAFETY: see above.
-    let answer = unsafe {
-        ffi::ernavluq_grid_write(
-            rows,
-            columns,
-            k,
-            data.as_ptr(),
-            data.len(),
-            mask.as_ptr(),
-            mask.len(),
-            values.as_ptr(),
-            values.len(),
-            cells.as_mut_ptr(),
-            cells.len(),
-            counters.as_mut_ptr(),
-            counters.len(),
-        )
-    };
-    judged(answer, Answer::GridWrite)
 }

@@ -17,6 +17,8 @@ pub const SAME_POINTER: usize = 5;
 pub const NO_ENTRY_LEFT: usize = 6;
 /// The faults of a block cannot be masked for this data.
 pub const UNMASKABLE: usize = 7;
+/// By the counters that a store is lent, a stuck cell would read wrong.
+pub const MISREAD: usize = 13;
 
 /// A call that was refused: the lowest refusal that applies. No buffer was altered.
 #[derive(Clone, Copy, Debug, PartialEq, Eq)]
@@ -42,6 +44,7 @@ impl fmt::Display for Refusal {
             SAME_POINTER => "two active entries hold the same pointer",
             NO_ENTRY_LEFT => "the row has no entry left",
             UNMASKABLE => "the faults of the block cannot be masked for this data",
+            MISREAD => "by these counters a stuck cell would read wrong",
             _ => "no number that a call answers",
         };
         write!(f, "refusal {}: {words}", self.number())

@@ -125,30 +125,39 @@ fn p7_numbers_and_lengths() {
     }
 }
 
-/// A square block of zeros: the answer, the counters and the cells afterwards. A refusal leaves both, and a read gives the data.
+/// A square block of zeros, planned and stored: the answer of both, the counters and the cells afterwards. A refusal leaves both, and a read gives the data.
 fn write_block(
     k: usize,
     mask: &[u64],
     values: &[u64],
-) -> (Result<GridWriteAnswer, Refusal>, Vec<u8>, Vec<u64>) {
+) -> (Result<GridAnswer, Refusal>, Vec<u8>, Vec<u64>) {
     let n = mask.len();
     let (data, mut cells, mut counters) =
         (vec![0; n], vec![9; n], vec![0xA5; counter_bytes(n, n, k)]);
-    let answer = grid_write(n, n, k, &data, mask, values, &mut cells, &mut counters);
+    let answer = grid_plan(n, n, k, &data, mask, values, &mut counters);
     if answer.is_ok() {
         let mut out = vec![9; n];
+        assert_eq!(
+            grid_store(n, n, k, &data, mask, values, &counters, &mut cells),
+            answer
+        );
         assert_eq!(
             grid_read(n, n, k, &cells, &counters, &mut out),
             Ok(GridReadAnswer { number: 0 })
         );
         assert_eq!(out, data);
     } else {
-        assert_eq!(
-            (&cells, &counters),
-            (&vec![9; n], &vec![0xA5; counter_bytes(n, n, k)])
-        );
+        assert_eq!(counters, vec![0xA5; counter_bytes(n, n, k)]);
     }
     (answer, counters, cells)
+}
+
+fn answer(number: usize, levels: usize, faults: usize) -> GridAnswer {
+    GridAnswer {
+        number,
+        levels,
+        faults,
+    }
 }
 
 fn block(
@@ -156,13 +165,9 @@ fn block(
     faults: usize,
     counters: &[u8],
     cells: &[u64],
-) -> (Result<GridWriteAnswer, Refusal>, Vec<u8>, Vec<u64>) {
+) -> (Result<GridAnswer, Refusal>, Vec<u8>, Vec<u64>) {
     (
-        Ok(GridWriteAnswer {
-            number: 0,
-            levels,
-            faults,
-        }),
+        Ok(answer(0, levels, faults)),
         counters.to_vec(),
         cells.to_vec(),
     )
@@ -172,11 +177,7 @@ fn block_number(k: usize, mask: &[u64], values: &[u64]) -> usize {
     let refusal = write_block(k, mask, values).0.unwrap_err();
     assert_eq!(
         refusal.answer,
-        Answer::GridWrite(GridWriteAnswer {
-            number: refusal.number(),
-            levels: 0,
-            faults: 0
-        })
+        Answer::GridPlan(answer(refusal.number(), 0, 0))
     );
     refusal.number()
 }
@@ -214,41 +215,14 @@ fn g3_to_g9() {
 #[test]
 fn g1_g2_and_g10() {
     let (mut cells, mut counters, mut out) = ([9; 2], [0xA5], [9]);
-    let answer = grid_write(
-        2,
-        2,
-        1,
-        &[1, 2],
-        &[0; 2],
-        &[0; 2],
-        &mut cells,
-        &mut counters,
-    );
-    assert_eq!(
-        (answer, cells, counters),
-        (
-            Ok(GridWriteAnswer {
-                number: 0,
-                levels: 0,
-                faults: 0
-            }),
-            [1, 2],
-            [0]
-        )
-    );
-    let answer = grid_write(1, 1, 1, &[1], &[1], &[0], &mut cells[..1], &mut counters);
-    assert_eq!(
-        (answer, cells[0], counters),
-        (
-            Ok(GridWriteAnswer {
-                number: 0,
-                levels: 1,
-                faults: 1
-            }),
-            0,
-            [3]
-        )
-    );
+    let planned = grid_plan(2, 2, 1, &[1, 2], &[0; 2], &[0; 2], &mut counters);
+    assert_eq!((planned, counters), (Ok(answer(0, 0, 0)), [0]));
+    let stored = grid_store(2, 2, 1, &[1, 2], &[0; 2], &[0; 2], &counters, &mut cells);
+    assert_eq!((stored, cells), (planned, [1, 2]));
+    let planned = grid_plan(1, 1, 1, &[1], &[1], &[0], &mut counters);
+    assert_eq!((planned, counters), (Ok(answer(0, 1, 1)), [3]));
+    let stored = grid_store(1, 1, 1, &[1], &[1], &[0], &counters, &mut cells[..1]);
+    assert_eq!((stored, cells[0]), (planned, 0));
     assert_eq!(
         grid_read(1, 1, 2, &[0], &[3], &mut out)
             .unwrap_err()
@@ -262,6 +236,36 @@ fn g1_g2_and_g10() {
     );
 }
 
+/// Block G3 with K = 3 by counters that no plan made: the answer, and the cells afterwards.
+fn store_g3(counters: &[u8], words: usize) -> (Result<GridAnswer, Refusal>, Vec<u64>) {
+    let mut cells = vec![9; words];
+    let stored = grid_store(2, 2, 3, &[0; 2], &[3, 2], &[1, 2], counters, &mut cells);
+    (stored, cells)
+}
+
+#[test]
+fn other_counters() {
+    // Rows 3 and 1, columns 3 and 2: they mask the faults too.
+    assert_eq!(store_g3(&[0xB7], 2), (Ok(answer(0, 3, 3)), vec![1, 3]));
+    for (counters, words, number) in [
+        (&[0][..], 2, MISREAD),
+        (&[0x92], 2, MISREAD),
+        (&[0x96], 1, WRONG_LENGTH),
+        (&[0x96, 0], 2, WRONG_LENGTH),
+    ] {
+        let refused = Answer::GridStore(answer(number, 0, 0));
+        assert_eq!(
+            store_g3(counters, words),
+            (Err(Refusal { answer: refused }), vec![9; words])
+        );
+    }
+    let mut cells = [9];
+    for (counters, number) in [(0x10, BIT_PAST_END), (0x0C, MALFORMED)] {
+        let refusal = grid_store(1, 1, 2, &[0], &[0], &[0], &[counters], &mut cells).unwrap_err();
+        assert_eq!((refusal.number(), cells), (number, [9]));
+    }
+}
+
 #[test]
 fn a_refusal_speaks() {
     let refusal: Box<dyn std::error::Error> =
@@ -270,7 +274,7 @@ fn a_refusal_speaks() {
         refusal.to_string(),
         "refusal 1: n, the rows, the columns or K lie outside their range"
     );
-    for number in 1..=7 {
+    for number in (1..=7).chain([13]) {
         let told = Refusal {
             answer: Answer::GridRead(GridReadAnswer { number }),
         }

@@ -1,12 +1,10 @@
 //! Makes a call, checks what it did a second way, and tells the outcome in one line.
 
-use crate::bits::{bit_of_bytes, bit_of_word};
-use crate::call::{Call, GridRead, GridWrite, PointerRead, PointerWrite};
-use crate::chains::{verdict, Verdict};
-use crate::levels::states;
-use crate::{grid, pointer};
+use crate::bits::bit_of_bytes;
+use crate::call::{Call, GridPlan, GridRead, GridStore, PointerRead, PointerWrite};
+use crate::{check_grid, grid, pointer};
 
-/// The outcome of a call: 0 or the refusal, and the counts of a write.
+/// The outcome of a call: 0 or the refusal, and the counts of a write, a plan or a store.
 #[derive(Clone, Debug, PartialEq, Eq)]
 pub struct Outcome {
     pub number: u8,
@@ -47,46 +45,6 @@ fn check_pointer_write(call: &PointerWrite) -> Result<(), String> {
     Ok(())
 }
 
-/// Checks refusal 7 and L of a grid write, whose numbers, lengths and words were all judged good, by chains.
-fn check_by_chains(call: &GridWrite, answer: grid::WriteAnswer) -> Result<(), String> {
-    let columns = call.numbers[1] as usize;
-    let most_levels = call.numbers[2] as usize;
-    let seen = states(columns, &call.data, &call.mask, &call.values);
-    let by_levels = if answer.number == 7 {
-        Verdict::Refusal7
-    } else {
-        Verdict::Levels(answer.levels)
-    };
-    let by_chains = verdict(&seen, most_levels);
-    if by_levels != by_chains {
-        return Err(format!(
-            "levels say {by_levels:?} and chains say {by_chains:?}"
-        ));
-    }
-    Ok(())
-}
-
-/// Checks an accepted grid write: the data comes back by the read, and every stuck cell holds its stuck value.
-fn check_grid_write(call: &GridWrite) -> Result<(), String> {
-    let mut shown = vec![0; call.data.len()];
-    let number = grid::read(call.numbers, &call.cells, &call.counters, &mut shown);
-    if number != 0 || shown != call.data {
-        return Err(format!(
-            "a grid write does not read back (read answers {number})"
-        ));
-    }
-    for row in 0..call.data.len() {
-        for column in 0..call.numbers[1] as usize {
-            let stored = bit_of_word(call.cells[row], column);
-            let stuck = bit_of_word(call.mask[row], column);
-            if stuck && stored != bit_of_word(call.values[row], column) {
-                return Err(format!("stuck cell ({row},{column}) of a grid moved"));
-            }
-        }
-    }
-    Ok(())
-}
-
 /// Makes a pointer write and checks it.
 fn make_pointer_write(call: &mut PointerWrite) -> Result<Outcome, String> {
     let answer = pointer::write(
@@ -114,22 +72,33 @@ fn make_pointer_read(call: &mut PointerRead) -> Outcome {
     }
 }
 
-/// Makes a grid write and checks it.
-fn make_grid_write(call: &mut GridWrite) -> Result<Outcome, String> {
-    let answer = grid::write(
+/// Makes a grid plan and checks it.
+fn make_grid_plan(call: &mut GridPlan) -> Result<Outcome, String> {
+    let answer = grid::plan(
         call.numbers,
         &call.data,
         &call.mask,
         &call.values,
-        &mut call.cells,
         &mut call.counters,
     );
-    if answer.number == 0 || answer.number == 7 {
-        check_by_chains(call, answer)?;
-    }
-    if answer.number == 0 {
-        check_grid_write(call)?;
-    }
+    check_grid::check_plan(call, answer)?;
+    Ok(Outcome {
+        number: answer.number,
+        counts: vec![answer.levels, answer.stuck],
+    })
+}
+
+/// Makes a grid store and checks it.
+fn make_grid_store(call: &mut GridStore) -> Result<Outcome, String> {
+    let answer = grid::store(
+        call.numbers,
+        &call.data,
+        &call.mask,
+        &call.values,
+        &call.counters,
+        &mut call.cells,
+    );
+    check_grid::check_store(call, answer)?;
     Ok(Outcome {
         number: answer.number,
         counts: vec![answer.levels, answer.stuck],
@@ -144,13 +113,14 @@ fn make_grid_read(call: &mut GridRead) -> Outcome {
     }
 }
 
-/// Makes a call, which changes its buffers as document 01 says; an error if a check fails.
+/// Makes a call, which changes its buffers as documents 01 and 02 say; an error if a check fails.
 pub fn make(call: &mut Call) -> Result<Outcome, String> {
     match call {
         Call::PointerWrite(c) => make_pointer_write(c),
         Call::PointerRead(c) => Ok(make_pointer_read(c)),
-        Call::GridWrite(c) => make_grid_write(c),
+        Call::GridPlan(c) => make_grid_plan(c),
         Call::GridRead(c) => Ok(make_grid_read(c)),
+        Call::GridStore(c) => make_grid_store(c),
     }
 }
 
@@ -166,11 +136,9 @@ pub fn line(call: &Call, outcome: &Outcome) -> String {
             parts.push(hex_of_bytes(&c.metadata));
         }
         Call::PointerRead(c) => parts.push(hex_of_bytes(&c.output)),
-        Call::GridWrite(c) => {
-            parts.push(hex_of_words(&c.cells));
-            parts.push(hex_of_bytes(&c.counters));
-        }
+        Call::GridPlan(c) => parts.push(hex_of_bytes(&c.counters)),
         Call::GridRead(c) => parts.push(hex_of_words(&c.output)),
+        Call::GridStore(c) => parts.push(hex_of_words(&c.cells)),
     }
     parts.join(" ")
 }

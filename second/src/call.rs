@@ -25,14 +25,13 @@ pub struct PointerRead {
     pub output: Vec<u8>,
 }
 
-/// The arguments of a grid write, tag 3; the numbers are rows, columns and K.
+/// The arguments of a grid plan, tag 3; the numbers are rows, columns and K.
 #[derive(Clone, Debug, PartialEq, Eq)]
-pub struct GridWrite {
+pub struct GridPlan {
     pub numbers: [u64; 3],
     pub data: Vec<u64>,
     pub mask: Vec<u64>,
     pub values: Vec<u64>,
-    pub cells: Vec<u64>,
     pub counters: Vec<u8>,
 }
 
@@ -45,13 +44,25 @@ pub struct GridRead {
     pub output: Vec<u64>,
 }
 
-/// One call of one of the four functions of document 01.
+/// The arguments of a grid store, tag 5; the numbers are rows, columns and K.
+#[derive(Clone, Debug, PartialEq, Eq)]
+pub struct GridStore {
+    pub numbers: [u64; 3],
+    pub data: Vec<u64>,
+    pub mask: Vec<u64>,
+    pub values: Vec<u64>,
+    pub counters: Vec<u8>,
+    pub cells: Vec<u64>,
+}
+
+/// One call of one of the five functions of documents 01 and 02.
 #[derive(Clone, Debug, PartialEq, Eq)]
 pub enum Call {
     PointerWrite(PointerWrite),
     PointerRead(PointerRead),
-    GridWrite(GridWrite),
+    GridPlan(GridPlan),
     GridRead(GridRead),
+    GridStore(GridStore),
 }
 
 /// Why no call could be taken from the input.
@@ -147,12 +158,11 @@ pub fn next_call(input: &mut impl Read) -> Result<Option<Call>, Trouble> {
             metadata: next_bytes(input)?,
             output: next_bytes(input)?,
         }),
-        3 => Call::GridWrite(GridWrite {
+        3 => Call::GridPlan(GridPlan {
             numbers: next_three_numbers(input)?,
             data: next_words(input)?,
             mask: next_words(input)?,
             values: next_words(input)?,
-            cells: next_words(input)?,
             counters: next_bytes(input)?,
         }),
         4 => Call::GridRead(GridRead {
@@ -160,6 +170,14 @@ pub fn next_call(input: &mut impl Read) -> Result<Option<Call>, Trouble> {
             cells: next_words(input)?,
             counters: next_bytes(input)?,
             output: next_words(input)?,
+        }),
+        5 => Call::GridStore(GridStore {
+            numbers: next_three_numbers(input)?,
+            data: next_words(input)?,
+            mask: next_words(input)?,
+            values: next_words(input)?,
+            counters: next_bytes(input)?,
+            cells: next_words(input)?,
         }),
         _ => return Err(Trouble::BadCall),
     };
@@ -214,10 +232,10 @@ pub fn put_call(output: &mut impl Write, call: &Call) -> io::Result<()> {
             put_numbers(output, &[c.n])?;
             put_bytes(output, &[&c.cells, &c.metadata, &c.output])
         }
-        Call::GridWrite(c) => {
+        Call::GridPlan(c) => {
             output.write_all(&[3])?;
             put_numbers(output, &c.numbers)?;
-            put_words(output, &[&c.data, &c.mask, &c.values, &c.cells])?;
+            put_words(output, &[&c.data, &c.mask, &c.values])?;
             put_bytes(output, &[&c.counters])
         }
         Call::GridRead(c) => {
@@ -226,6 +244,13 @@ pub fn put_call(output: &mut impl Write, call: &Call) -> io::Result<()> {
             put_words(output, &[&c.cells])?;
             put_bytes(output, &[&c.counters])?;
             put_words(output, &[&c.output])
+        }
+        Call::GridStore(c) => {
+            output.write_all(&[5])?;
+            put_numbers(output, &c.numbers)?;
+            put_words(output, &[&c.data, &c.mask, &c.values])?;
+            put_bytes(output, &[&c.counters])?;
+            put_words(output, &[&c.cells])
         }
     }
 }

@@ -13,7 +13,8 @@ pub struct Shape {
     pub most_levels: usize,
 }
 
-/// The counters: for each row and each column the number of levels that took it.
+/// The counters of the rows and of the columns: a plan's count the levels that took each, other ones may be anything.
+#[derive(Clone)]
 pub struct Counters {
     pub rows: Vec<usize>,
     pub columns: Vec<usize>,
@@ -71,6 +72,28 @@ pub fn packed_counters(shape: Shape, counters: &Counters) -> Vec<u8> {
         }
     }
     packed
+}
+
+/// The counters of a packed buffer of the right length, whether or not they are up to K.
+pub fn unpacked_counters(shape: Shape, packed: &[u8]) -> Counters {
+    let width = counter_width(shape.most_levels);
+    let mut in_order = Vec::new();
+    for place in 0..shape.rows + shape.columns {
+        in_order.push(stored_counter(packed, width, place));
+    }
+    Counters {
+        rows: in_order[..shape.rows].to_vec(),
+        columns: in_order[shape.rows..].to_vec(),
+    }
+}
+
+/// The greatest counter, be it of a row or of a column.
+pub fn greatest_counter(counters: &Counters) -> usize {
+    let mut greatest = 0;
+    for counter in counters.rows.iter().chain(counters.columns.iter()) {
+        greatest = greatest.max(*counter);
+    }
+    greatest
 }
 
 /// Whether the bit of a cell is stored and read inverted: the smaller of its two counters is odd.

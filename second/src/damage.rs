@@ -2,8 +2,7 @@
 
 use crate::random::Random;
 
-/// Damaged buffers get no longer than this, below the most that the format allows: so a seed still makes the calls
-/// that were stored when this was the most. `long.rs` has the longer ones.
+/// Damaged buffers get no longer than this, so that calls stay small; `long.rs` has the longer ones.
 const LONGEST: usize = 512;
 
 /// Numbers at the extremes of their type.

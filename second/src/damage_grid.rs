@@ -1,7 +1,7 @@
 //! Damage to grid calls: numbers, lengths, bits past the last column, spare bits, and counters above K.
 
 use crate::bits::{bytes_that_hold, set_bit_of_bytes};
-use crate::call::{GridRead, GridWrite};
+use crate::call::{GridPlan, GridRead, GridStore};
 use crate::counters::{counter_width, MOST_LEVELS, MOST_LINES};
 use crate::damage::{number_near_limit, number_outside, resize_bytes, resize_words};
 use crate::random::Random;
@@ -9,14 +9,9 @@ use crate::random::Random;
 /// The ranges of rows, columns and K end here.
 const MOST: [u64; 3] = [MOST_LINES, MOST_LINES, MOST_LEVELS];
 
-/// Gives a grid write one kind of damage.
-pub fn damage_write(random: &mut Random, call: &mut GridWrite) {
-    let mut words = [
-        &mut call.data,
-        &mut call.mask,
-        &mut call.values,
-        &mut call.cells,
-    ];
+/// Gives a grid plan one kind of damage.
+pub fn damage_plan(random: &mut Random, call: &mut GridPlan) {
+    let mut words = [&mut call.data, &mut call.mask, &mut call.values];
     match random.below(100) {
         0..=29 => damage_numbers(random, &mut call.numbers, &mut words, &mut call.counters),
         30..=59 => damage_lengths(random, &mut words, &mut call.counters),
@@ -25,6 +20,34 @@ pub fn damage_write(random: &mut Random, call: &mut GridWrite) {
             set_bits_past(random, call.numbers[1], words[place]);
         }
         90..=94 => call.numbers.swap(0, 1),
+        _ => call.numbers[2] = random.between(0, 4) as u64,
+    }
+}
+
+/// Gives a grid store one kind of damage.
+pub fn damage_store(random: &mut Random, call: &mut GridStore) {
+    let mut words = [
+        &mut call.data,
+        &mut call.mask,
+        &mut call.values,
+        &mut call.cells,
+    ];
+    match random.below(100) {
+        0..=14 => damage_numbers(random, &mut call.numbers, &mut words, &mut call.counters),
+        15..=34 => damage_lengths(random, &mut words, &mut call.counters),
+        35..=52 => {
+            let place = random.below(3);
+            set_bits_past(random, call.numbers[1], words[place]);
+        }
+        53..=65 => set_spare_bits(random, call.numbers, &mut call.counters),
+        66..=94 => {
+            // The counters of K = 3 have the width of those of K = 2, for which 3 is too high.
+            if call.numbers[2] == 3 && random.bit() {
+                call.numbers[2] = 2;
+            }
+            raise_counters(random, call.numbers, &mut call.counters);
+        }
+        95 | 96 => call.numbers.swap(0, 1),
         _ => call.numbers[2] = random.between(0, 4) as u64,
     }
 }

@@ -1,26 +1,28 @@
-//! Grid blocks: a grid of cells with one counter for each row and each column (document 01, "Grid blocks").
+//! Grid blocks: a grid of cells with one counter for each row and each column (document 01, "Grid blocks"), whose
+//! write is a plan and a store (document 02, A7).
 
 use crate::bits::{bit_of_word, bytes_that_hold, has_bit_past, has_spare_bit, word_of};
 use crate::counters::{
-    counter_bits, counter_width, is_inverted, judged_shape, packed_counters, stored_counter,
-    Counters,
+    counter_bits, greatest_counter, is_inverted, judged_shape, packed_counters, unpacked_counters,
+    Counters, Shape,
 };
 use crate::levels::{states, take_levels};
 
-/// What a grid write answers: 0 or the refusal, the levels used L, and the stuck cells F.
+/// What a plan or a store answers: 0 or the refusal, L (the levels used, the greatest counter), and the stuck cells F.
 #[derive(Clone, Copy, Debug, PartialEq, Eq)]
-pub struct WriteAnswer {
+pub struct Answer {
     pub number: u8,
     pub levels: usize,
     pub stuck: usize,
 }
 
-/// What an accepted write will store, worked out before any lent memory is touched.
-struct Plan {
-    cells: Vec<u64>,
-    counters: Vec<u8>,
-    levels: usize,
-    stuck: usize,
+/// The answer of a refusal: every count is 0.
+fn refused(number: u8) -> Answer {
+    Answer {
+        number,
+        levels: 0,
+        stuck: 0,
+    }
 }
 
 /// F: the number of ones in the mask words.
@@ -36,38 +38,95 @@ fn stuck_cells(mask: &[u64]) -> usize {
     stuck
 }
 
-/// Works out a write without touching lent memory: the plan, or the lowest refusal of 1, 2, 3 and 7.
-fn plan_write(
-    numbers: [u64; 3],
-    data: &[u64],
-    mask: &[u64],
-    values: &[u64],
-    cells_length: usize,
-    counters_length: usize,
-) -> Result<Plan, u8> {
-    let shape = judged_shape(numbers[0], numbers[1], numbers[2])?;
-    let lengths = [data.len(), mask.len(), values.len(), cells_length];
-    if lengths.iter().any(|length| *length != shape.rows) {
+/// Refusal 2: a buffer of words has not one word a row, or the counters have not the bytes that hold them.
+fn judge_lengths(shape: Shape, words: &[usize], counters: usize) -> Result<(), u8> {
+    if words.iter().any(|length| *length != shape.rows) {
         return Err(2);
     }
-    if counters_length != bytes_that_hold(counter_bits(shape)) {
+    if counters != bytes_that_hold(counter_bits(shape)) {
         return Err(2);
     }
-    if [data, mask, values]
+    Ok(())
+}
+
+/// Refusal 3: a word that is read has a bit past the last column.
+fn judge_words(shape: Shape, buffers: &[&[u64]]) -> Result<(), u8> {
+    if buffers
         .iter()
         .any(|words| has_bit_past(words, shape.columns))
     {
         return Err(3);
     }
+    Ok(())
+}
+
+/// The counters of a buffer of the right length, or refusal 3 for a spare bit, or refusal 4 for a counter above K.
+fn judged_counters(shape: Shape, packed: &[u8]) -> Result<Counters, u8> {
+    if has_spare_bit(packed, counter_bits(shape)) {
+        return Err(3);
+    }
+    let counters = unpacked_counters(shape, packed);
+    if greatest_counter(&counters) > shape.most_levels {
+        return Err(4);
+    }
+    Ok(counters)
+}
+
+/// Works out the packed counters and the answer of a plan, or the lowest refusal of 1, 2, 3 and 7.
+fn planned(
+    numbers: [u64; 3],
+    data: &[u64],
+    mask: &[u64],
+    values: &[u64],
+    counters_length: usize,
+) -> Result<(Vec<u8>, Answer), u8> {
+    let shape = judged_shape(numbers[0], numbers[1], numbers[2])?;
+    let lengths = [data.len(), mask.len(), values.len()];
+    judge_lengths(shape, &lengths, counters_length)?;
+    judge_words(shape, &[data, mask, values])?;
     let grid = states(shape.columns, data, mask, values);
     let (levels, counters) = take_levels(shape, &grid)?;
+    let answer = Answer {
+        number: 0,
+        levels,
+        stuck: stuck_cells(mask),
+    };
+    Ok((packed_counters(shape, &counters), answer))
+}
+
+/// The grid plan for the numbers rows, columns and K: fills the counters if it accepts; after a refusal L and F are 0
+/// and nothing is altered.
+pub fn plan(
+    numbers: [u64; 3],
+    data: &[u64],
+    mask: &[u64],
+    values: &[u64],
+    counters: &mut [u8],
+) -> Answer {
+    match planned(numbers, data, mask, values, counters.len()) {
+        Err(number) => refused(number),
+        Ok((packed, answer)) => {
+            counters.copy_from_slice(&packed);
+            answer
+        }
+    }
+}
+
+/// The cells that a store leaves: a stuck cell keeps its value, a sound one takes its data bit, inverted or not.
+fn stored_cells(
+    shape: Shape,
+    data: &[u64],
+    mask: &[u64],
+    values: &[u64],
+    counters: &Counters,
+) -> Vec<u64> {
     let mut cells = Vec::new();
     for row in 0..shape.rows {
         let mut line = Vec::new();
         for column in 0..shape.columns {
             let stored = if bit_of_word(mask[row], column) {
                 bit_of_word(values[row], column)
-            } else if is_inverted(&counters, row, column) {
+            } else if is_inverted(counters, row, column) {
                 !bit_of_word(data[row], column)
             } else {
                 bit_of_word(data[row], column)
@@ -76,78 +135,17 @@ fn plan_write(
         }
         cells.push(word_of(&line));
     }
-    Ok(Plan {
-        cells,
-        counters: packed_counters(shape, &counters),
-        levels,
-        stuck: stuck_cells(mask),
-    })
+    cells
 }
 
-/// The grid write for the numbers rows, columns and K: stores cells and counters if it accepts; after a
-/// refusal L and F are 0 and nothing is altered.
-pub fn write(
-    numbers: [u64; 3],
-    data: &[u64],
-    mask: &[u64],
-    values: &[u64],
-    cells: &mut [u64],
-    counters: &mut [u8],
-) -> WriteAnswer {
-    match plan_write(numbers, data, mask, values, cells.len(), counters.len()) {
-        Err(number) => WriteAnswer {
-            number,
-            levels: 0,
-            stuck: 0,
-        },
-        Ok(plan) => {
-            cells.copy_from_slice(&plan.cells);
-            counters.copy_from_slice(&plan.counters);
-            WriteAnswer {
-                number: 0,
-                levels: plan.levels,
-                stuck: plan.stuck,
-            }
-        }
-    }
-}
-
-/// Works out what a read shows, or the lowest refusal of 1, 2, 3 and 4.
-fn plan_read(
-    numbers: [u64; 3],
-    cells: &[u64],
-    packed: &[u8],
-    output_length: usize,
-) -> Result<Vec<u64>, u8> {
-    let shape = judged_shape(numbers[0], numbers[1], numbers[2])?;
-    if cells.len() != shape.rows || output_length != shape.rows {
-        return Err(2);
-    }
-    if packed.len() != bytes_that_hold(counter_bits(shape)) {
-        return Err(2);
-    }
-    if has_bit_past(cells, shape.columns) || has_spare_bit(packed, counter_bits(shape)) {
-        return Err(3);
-    }
-    let width = counter_width(shape.most_levels);
-    let mut in_order = Vec::new();
-    for place in 0..shape.rows + shape.columns {
-        let counter = stored_counter(packed, width, place);
-        if counter > shape.most_levels {
-            return Err(4);
-        }
-        in_order.push(counter);
-    }
-    let counters = Counters {
-        rows: in_order[..shape.rows].to_vec(),
-        columns: in_order[shape.rows..].to_vec(),
-    };
+/// What a read of cells with these counters shows.
+fn shown_cells(shape: Shape, cells: &[u64], counters: &Counters) -> Vec<u64> {
     let mut shown = Vec::new();
     for row in 0..shape.rows {
         let mut line = Vec::new();
         for column in 0..shape.columns {
             let bit = bit_of_word(cells[row], column);
-            line.push(if is_inverted(&counters, row, column) {
+            line.push(if is_inverted(counters, row, column) {
                 !bit
             } else {
                 bit
@@ -155,13 +153,84 @@ fn plan_read(
         }
         shown.push(word_of(&line));
     }
-    Ok(shown)
+    shown
+}
+
+/// Refusal 13: a stuck cell shows another bit than its data bit.
+fn judge_stuck_cells(shape: Shape, data: &[u64], mask: &[u64], shown: &[u64]) -> Result<(), u8> {
+    for row in 0..shape.rows {
+        for column in 0..shape.columns {
+            let stuck = bit_of_word(mask[row], column);
+            if stuck && bit_of_word(shown[row], column) != bit_of_word(data[row], column) {
+                return Err(13);
+            }
+        }
+    }
+    Ok(())
+}
+
+/// Works out the cells and the answer of a store, or the lowest refusal of 1, 2, 3, 4 and 13.
+fn to_store(
+    numbers: [u64; 3],
+    data: &[u64],
+    mask: &[u64],
+    values: &[u64],
+    packed: &[u8],
+    cells_length: usize,
+) -> Result<(Vec<u64>, Answer), u8> {
+    let shape = judged_shape(numbers[0], numbers[1], numbers[2])?;
+    let lengths = [data.len(), mask.len(), values.len(), cells_length];
+    judge_lengths(shape, &lengths, packed.len())?;
+    judge_words(shape, &[data, mask, values])?;
+    let counters = judged_counters(shape, packed)?;
+    let cells = stored_cells(shape, data, mask, values, &counters);
+    let shown = shown_cells(shape, &cells, &counters);
+    judge_stuck_cells(shape, data, mask, &shown)?;
+    let answer = Answer {
+        number: 0,
+        levels: greatest_counter(&counters),
+        stuck: stuck_cells(mask),
+    };
+    Ok((cells, answer))
+}
+
+/// The grid store for the numbers rows, columns and K, with counters of any origin: fills the cells if it accepts;
+/// after a refusal L and F are 0 and nothing is altered.
+pub fn store(
+    numbers: [u64; 3],
+    data: &[u64],
+    mask: &[u64],
+    values: &[u64],
+    counters: &[u8],
+    cells: &mut [u64],
+) -> Answer {
+    match to_store(numbers, data, mask, values, counters, cells.len()) {
+        Err(number) => refused(number),
+        Ok((stored, answer)) => {
+            cells.copy_from_slice(&stored);
+            answer
+        }
+    }
+}
+
+/// Works out what a read shows, or the lowest refusal of 1, 2, 3 and 4.
+fn to_show(
+    numbers: [u64; 3],
+    cells: &[u64],
+    packed: &[u8],
+    output_length: usize,
+) -> Result<Vec<u64>, u8> {
+    let shape = judged_shape(numbers[0], numbers[1], numbers[2])?;
+    judge_lengths(shape, &[cells.len(), output_length], packed.len())?;
+    judge_words(shape, &[cells])?;
+    let counters = judged_counters(shape, packed)?;
+    Ok(shown_cells(shape, cells, &counters))
 }
 
 /// The grid read for the numbers rows, columns and K: answers 0 and fills the output, or answers the
 /// refusal and alters nothing.
 pub fn read(numbers: [u64; 3], cells: &[u64], counters: &[u8], output: &mut [u64]) -> u8 {
-    match plan_read(numbers, cells, counters, output.len()) {
+    match to_show(numbers, cells, counters, output.len()) {
         Err(number) => number,
         Ok(shown) => {
             output.copy_from_slice(&shown);

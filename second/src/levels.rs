@@ -1,4 +1,4 @@
-//! The levels of a grid write: which rows and columns each level takes (document 01, "Grid blocks").
+//! The levels of a grid plan: which rows and columns each level takes (document 01, "Grid blocks").
 
 use crate::bits::bit_of_word;
 use crate::counters::{Counters, Shape};

@@ -1,6 +1,6 @@
 //! Calls with long buffers: each buffer of each call in turn, and calls whose numbers would ask for such lengths.
 
-use crate::call::{Call, GridRead, GridWrite, PointerRead, PointerWrite, MOST_ELEMENTS};
+use crate::call::{Call, GridPlan, GridRead, GridStore, PointerRead, PointerWrite, MOST_ELEMENTS};
 
 /// The two lengths, given in turn to the buffers of a call.
 const LENGTHS: [usize; 2] = [513, MOST_ELEMENTS];
@@ -49,15 +49,27 @@ fn pointer_read() -> PointerRead {
     }
 }
 
-/// The write of case G6, whose lengths are right.
-fn grid_write() -> GridWrite {
-    GridWrite {
+/// The plan of case G6, whose lengths are right.
+fn grid_plan() -> GridPlan {
+    GridPlan {
         numbers: [3, 3, 3],
         data: vec![0; 3],
         mask: vec![3, 6, 4],
         values: vec![1, 2, 4],
-        cells: vec![JUNK_WORD; 3],
         counters: vec![JUNK_BYTE; 2],
+    }
+}
+
+/// The store of case G6 with the counters of its plan, whose lengths are right.
+fn grid_store() -> GridStore {
+    let plan = grid_plan();
+    GridStore {
+        numbers: plan.numbers,
+        data: plan.data,
+        mask: plan.mask,
+        values: plan.values,
+        counters: vec![0x5e, 0x0b],
+        cells: vec![JUNK_WORD; 3],
     }
 }
 
@@ -114,29 +126,53 @@ fn counter_bytes_that_ask() -> usize {
     (2 * (MOST_ELEMENTS + 3)).div_ceil(8)
 }
 
-/// Grid writes with one long buffer, refused with 2, and one with the rows out of range, refused with 1.
-fn grid_writes() -> Vec<Call> {
+/// Grid plans with one long buffer, refused with 2, and one with the rows out of range, refused with 1.
+fn grid_plans() -> Vec<Call> {
     let mut calls = Vec::new();
-    for place in 0..5 {
-        let mut call = grid_write();
+    for place in 0..4 {
+        let mut call = grid_plan();
         let length = LENGTHS[place % 2];
         match place {
             0 => lengthen_words(&mut call.data, length),
             1 => lengthen_words(&mut call.mask, length),
             2 => lengthen_words(&mut call.values, length),
-            3 => lengthen_words(&mut call.cells, length),
             _ => lengthen_bytes(&mut call.counters, length),
         }
-        calls.push(Call::GridWrite(call));
+        calls.push(Call::GridPlan(call));
     }
-    let mut call = grid_write();
+    let mut call = grid_plan();
     call.numbers[0] = MOST_ELEMENTS as u64;
     call.data.resize(MOST_ELEMENTS, 0);
     call.mask.resize(MOST_ELEMENTS, 0);
     call.values.resize(MOST_ELEMENTS, 0);
-    lengthen_words(&mut call.cells, MOST_ELEMENTS);
     lengthen_bytes(&mut call.counters, counter_bytes_that_ask());
-    calls.push(Call::GridWrite(call));
+    calls.push(Call::GridPlan(call));
+    calls
+}
+
+/// Grid stores with one long buffer, refused with 2, and one with the rows out of range, refused with 1.
+fn grid_stores() -> Vec<Call> {
+    let mut calls = Vec::new();
+    for place in 0..5 {
+        let mut call = grid_store();
+        let length = LENGTHS[place % 2];
+        match place {
+            0 => lengthen_words(&mut call.data, length),
+            1 => lengthen_words(&mut call.mask, length),
+            2 => lengthen_words(&mut call.values, length),
+            3 => lengthen_bytes(&mut call.counters, length),
+            _ => lengthen_words(&mut call.cells, length),
+        }
+        calls.push(Call::GridStore(call));
+    }
+    let mut call = grid_store();
+    call.numbers[0] = MOST_ELEMENTS as u64;
+    call.data.resize(MOST_ELEMENTS, 0);
+    call.mask.resize(MOST_ELEMENTS, 0);
+    call.values.resize(MOST_ELEMENTS, 0);
+    call.counters.resize(counter_bytes_that_ask(), 0);
+    lengthen_words(&mut call.cells, MOST_ELEMENTS);
+    calls.push(Call::GridStore(call));
     calls
 }
 
@@ -167,8 +203,9 @@ pub fn all() -> Vec<Call> {
     [
         pointer_writes(),
         pointer_reads(),
-        grid_writes(),
+        grid_plans(),
         grid_reads(),
+        grid_stores(),
     ]
     .concat()
 }

@@ -1,17 +1,19 @@
-//! Makes calls of all four tags, sound and damaged, that depend on a seed alone.
+//! Makes calls of all five tags, sound and damaged, that depend on a seed alone.
 
-use crate::call::{Call, GridWrite, PointerWrite};
+use crate::call::{Call, GridPlan, GridStore, PointerWrite};
 use crate::random::Random;
-use crate::{damage_grid, damage_pointer, grid, make_grid, make_pointer, pointer};
+use crate::{damage_grid, damage_pointer, grid, pointer};
+use crate::{make_grid, make_plan, make_pointer, make_store};
 
-/// How many rows and how many grids are remembered for later calls.
+/// How many rows, plans and grids are remembered for later calls.
 const MOST_KEPT: usize = 6;
 
-/// Makes calls one after another and remembers what accepted writes stored.
+/// Makes calls one after another and remembers what accepted writes, plans and stores left.
 pub struct Maker {
     random: Random,
     rows: Vec<PointerWrite>,
-    grids: Vec<GridWrite>,
+    plans: Vec<GridPlan>,
+    grids: Vec<GridStore>,
 }
 
 /// Remembers one more, in the place of some other if there are many.
@@ -37,8 +39,8 @@ fn recalled<T: Clone>(random: &mut Random, kept: &[T], percent: usize) -> Option
 fn damages(random: &mut Random) -> usize {
     match random.below(100) {
         0..=47 => 0,
-        48..=91 => 1,
-        _ => 2,
+        48..=89 => 1,
+        _ => random.between(2, 3),
     }
 }
 
@@ -48,6 +50,7 @@ impl Maker {
         Maker {
             random: Random::new(seed),
             rows: Vec::new(),
+            plans: Vec::new(),
             grids: Vec::new(),
         }
     }
@@ -55,9 +58,10 @@ impl Maker {
     /// The next call.
     pub fn next_call(&mut self) -> Call {
         match self.random.below(100) {
-            0..=29 => self.pointer_write(),
-            30..=49 => self.pointer_read(),
-            50..=79 => self.grid_write(),
+            0..=22 => self.pointer_write(),
+            23..=38 => self.pointer_read(),
+            39..=60 => self.grid_plan(),
+            61..=84 => self.grid_store(),
             _ => self.grid_read(),
         }
     }
@@ -100,32 +104,59 @@ impl Maker {
         Call::PointerRead(call)
     }
 
-    /// A grid write; what it stores is remembered if it is accepted.
-    fn grid_write(&mut self) -> Call {
+    /// A grid plan; its counters are remembered if it is accepted.
+    fn grid_plan(&mut self) -> Call {
         let random = &mut self.random;
-        let mut call = match recalled(random, &self.grids, 20) {
-            Some(grid) => make_grid::further_write(random, grid),
-            None => make_grid::write_of_some_grid(random),
+        let mut call = match recalled(random, &self.plans, 20) {
+            Some(plan) => make_plan::further_plan(random, plan),
+            None => make_plan::plan_of_some_grid(random),
         };
         for _ in 0..damages(random) {
-            damage_grid::damage_write(random, &mut call);
+            damage_grid::damage_plan(random, &mut call);
         }
         let mut after = call.clone();
-        let answer = grid::write(
+        let answer = grid::plan(
             after.numbers,
             &after.data,
             &after.mask,
             &after.values,
-            &mut after.cells,
             &mut after.counters,
+        );
+        if answer.number == 0 {
+            keep(random, &mut self.plans, after);
+        }
+        Call::GridPlan(call)
+    }
+
+    /// A grid store, often with the counters of a plan; what it stores is remembered if it is accepted.
+    fn grid_store(&mut self) -> Call {
+        let random = &mut self.random;
+        let mut call = match recalled(random, &self.plans, 40) {
+            Some(plan) => make_store::store_of_plan(random, plan),
+            None => make_store::some_store(random),
+        };
+        if random.percent(15) {
+            make_store::change_idle_counters(random, &mut call);
+        }
+        for _ in 0..damages(random) {
+            damage_grid::damage_store(random, &mut call);
+        }
+        let mut after = call.clone();
+        let answer = grid::store(
+            after.numbers,
+            &after.data,
+            &after.mask,
+            &after.values,
+            &after.counters,
+            &mut after.cells,
         );
         if answer.number == 0 {
             keep(random, &mut self.grids, after);
         }
-        Call::GridWrite(call)
+        Call::GridStore(call)
     }
 
-    /// A grid read, often of what a write stored.
+    /// A grid read, often of what a store left.
     fn grid_read(&mut self) -> Call {
         let random = &mut self.random;
         let mut call = match recalled(random, &self.grids, 45) {

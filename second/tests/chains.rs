@@ -1,12 +1,12 @@
 //! Levels and chains agree on every pattern of faults of some small grids, with a third way to tell a chain.
 
 use second::answer;
-use second::call::{Call, GridWrite};
+use second::call::{Call, GridPlan};
 use second::chains::chain_exists;
 use second::levels::{states, State};
 
-/// The write of data 0 whose cells are sound, right or wrong by the digits, base 3, of the pattern.
-fn write_of(pattern: usize, rows: usize, columns: usize, most_levels: usize) -> GridWrite {
+/// The plan of data 0 whose cells are sound, right or wrong by the digits, base 3, of the pattern.
+fn plan_of(pattern: usize, rows: usize, columns: usize, most_levels: usize) -> GridPlan {
     let mut mask = vec![0; rows];
     let mut values = vec![0; rows];
     let mut rest = pattern;
@@ -22,12 +22,11 @@ fn write_of(pattern: usize, rows: usize, columns: usize, most_levels: usize) -> 
         }
     }
     let width = if most_levels == 1 { 1 } else { 2 };
-    GridWrite {
+    GridPlan {
         numbers: [rows as u64, columns as u64, most_levels as u64],
         data: vec![0; rows],
         mask,
         values,
-        cells: vec![0; rows],
         counters: vec![0; ((rows + columns) * width).div_ceil(8)],
     }
 }
@@ -81,7 +80,7 @@ fn levels_and_chains_agree_on_all_small_grids() {
     ] {
         for pattern in 0..3usize.pow((rows * columns) as u32) {
             for most_levels in 1..=3 {
-                let mut call = Call::GridWrite(write_of(pattern, rows, columns, most_levels));
+                let mut call = Call::GridPlan(plan_of(pattern, rows, columns, most_levels));
                 let outcome = answer::make(&mut call).unwrap();
                 assert!(outcome.number == 0 || outcome.number == 7);
             }
@@ -93,7 +92,7 @@ fn levels_and_chains_agree_on_all_small_grids() {
 fn the_search_for_chains_agrees_with_walking_them() {
     for (rows, columns) in [(1, 3), (2, 2), (2, 3), (3, 2), (3, 3)] {
         for pattern in 0..3usize.pow((rows * columns) as u32) {
-            let call = write_of(pattern, rows, columns, 3);
+            let call = plan_of(pattern, rows, columns, 3);
             let grid = states(columns, &call.data, &call.mask, &call.values);
             for length in 1..=7 {
                 assert_eq!(chain_exists(&grid, length), walked(&grid, length));

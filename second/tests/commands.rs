@@ -60,7 +60,7 @@ fn bad_calls_stop_the_run() {
         let after_good = [&good, &good[..length]].concat();
         assert_eq!(printed(&after_good), format!("{line}bad call\n"));
     }
-    for tag in [0, 5, 255] {
+    for tag in [0, 6, 255] {
         let input = [good.clone(), vec![tag], good.clone()].concat();
         assert_eq!(printed(&input), format!("{line}bad call\n"));
     }
@@ -111,7 +111,7 @@ fn made_calls_run_to_the_end() {
 #[test]
 fn cases_run_to_the_end() {
     let cases = second(&["cases"], &[]).stdout;
-    assert_eq!(printed(&cases).lines().count(), 60 + 51);
+    assert_eq!(printed(&cases).lines().count(), 60 + 147);
 }
 
 #[test]
@@ -120,7 +120,7 @@ fn long_calls_print_one_line_each() {
     assert_eq!(calls, second(&["long"], &[]).stdout);
     let lines = printed(&calls);
     let numbers: String = lines.lines().map(|line| &line[..1]).collect();
-    assert_eq!(numbers, "22222122212222212221");
+    assert_eq!(numbers, "2222212221222212221222221");
 }
 
 #[test]

@@ -5,7 +5,9 @@ use second::call::{next_call, put_call, Call, MOST_ELEMENTS};
 use second::long;
 
 /// The numbers that the calls answer, by their tags.
-const NUMBERS: [u8; 20] = [2, 2, 2, 2, 2, 1, 2, 2, 2, 1, 2, 2, 2, 2, 2, 1, 2, 2, 2, 1];
+const NUMBERS: [u8; 25] = [
+    2, 2, 2, 2, 2, 1, 2, 2, 2, 1, 2, 2, 2, 2, 1, 2, 2, 2, 1, 2, 2, 2, 2, 2, 1,
+];
 
 /// The lengths of a call's buffers.
 fn lengths(call: &Call) -> Vec<usize> {
@@ -14,14 +16,15 @@ fn lengths(call: &Call) -> Vec<usize> {
             .map(Vec::len)
             .to_vec(),
         Call::PointerRead(c) => [&c.cells, &c.metadata, &c.output].map(Vec::len).to_vec(),
-        Call::GridWrite(c) => {
-            let mut all = [&c.data, &c.mask, &c.values, &c.cells]
-                .map(Vec::len)
-                .to_vec();
-            all.push(c.counters.len());
-            all
-        }
+        Call::GridPlan(c) => vec![c.data.len(), c.mask.len(), c.values.len(), c.counters.len()],
         Call::GridRead(c) => vec![c.cells.len(), c.counters.len(), c.output.len()],
+        Call::GridStore(c) => vec![
+            c.data.len(),
+            c.mask.len(),
+            c.values.len(),
+            c.counters.len(),
+            c.cells.len(),
+        ],
     }
 }
 
@@ -39,7 +42,13 @@ fn shorten(call: &mut Call) {
             c.metadata.truncate(3);
             c.output.truncate(64);
         }
-        Call::GridWrite(c) => {
+        Call::GridPlan(c) => {
+            for buffer in [&mut c.data, &mut c.mask, &mut c.values] {
+                buffer.truncate(3);
+            }
+            c.counters.truncate(2);
+        }
+        Call::GridStore(c) => {
             for buffer in [&mut c.data, &mut c.mask, &mut c.values, &mut c.cells] {
                 buffer.truncate(3);
             }
@@ -72,7 +81,7 @@ fn long_calls_are_refused_and_alter_nothing() {
 #[test]
 fn both_lengths_come_up_in_each_call_and_every_place_is_long_once() {
     let calls = long::all();
-    for (first, places) in [(0, 5), (6, 3), (10, 5), (16, 3)] {
+    for (first, places) in [(0, 5), (6, 3), (10, 4), (15, 3), (19, 5)] {
         let of_one_tag = &calls[first..first + places];
         let found: Vec<usize> = (0..places)
             .map(|place| lengths(&of_one_tag[place])[place])

@@ -43,6 +43,14 @@ pub fn has_spare(rows: usize, columns: usize, k: usize, packed: &[u8]) -> bool {
     last >> (((bits + 7) & 7) + 1) != 0
 }
 
+/// Stores counters that are all 0.
+#[inline(always)]
+pub fn store_zeros(packed: &mut [u8]) {
+    let (first, second) = packed.split_at_mut(packed.len().min(16));
+    store(first, 0);
+    store(second, 0);
+}
+
 /// Stores counters of one bit: 1 for the rows and columns in these sets.
 #[inline(always)]
 pub fn store_single(rows: usize, row_set: u64, column_set: u64, packed: &mut [u8]) {
@@ -91,6 +99,16 @@ pub fn has_three(words: [u64; 4]) -> bool {
         != 0
 }
 
+/// The greatest of these counters.
+#[inline(always)]
+pub fn greatest(words: [u64; 4]) -> usize {
+    let all = words.iter().fold(0, |all, word| all | word);
+    let low = usize::from(all & EVEN != 0);
+    let high = usize::from(all >> 1 & EVEN != 0);
+    // Without a 3, a low bit is that of a 1, which counts only where there is no 2.
+    high << 1 | low & !high | usize::from(has_three(words))
+}
+
 /// The sets of columns whose low and whose high bit is 1.
 #[inline(always)]
 pub fn column_sets(rows: usize, columns: usize, words: [u64; 4]) -> (u64, u64) {
@@ -123,7 +141,7 @@ pub fn inverted_rows(rows: usize, words: [u64; 4]) -> [u64; 2] {
 
 #[cfg(test)]
 mod tests {
-    use super::{gather, spread};
+    use super::{gather, greatest, spread, EVEN};
 
     #[test]
     fn bits_are_spread_and_gathered() {
@@ -133,5 +151,21 @@ mod tests {
             assert_eq!(gather(1 << (2 * bit + 1)), 0);
         }
         assert_eq!(gather(spread(0xdead_beef)), 0xdead_beef);
+    }
+
+    #[test]
+    fn the_greatest_counter_is_found_wherever_it_stands() {
+        assert_eq!(greatest([0; 4]), 0);
+        for place in 0..128 {
+            for counter in 1..=3 {
+                for others in 0..=counter {
+                    let mut words = [EVEN * others; 4];
+                    words[place / 32] &= !(3 << (2 * place % 64));
+                    words[place / 32] |= counter << (2 * place % 64);
+                    assert_eq!(greatest(words), counter as usize);
+                }
+            }
+        }
+        assert_eq!(greatest([1, 2, 0, 0]), 2);
     }
 }

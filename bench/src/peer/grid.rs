@@ -1,11 +1,11 @@
-//! The peer's grid blocks: the write and the read.
+//! The peer's grid blocks: the plan, the store and the read.
 
 use super::counters::{
-    bytes_of, column_sets, has_spare, has_three, inverted_rows, load_double, load_single,
-    store_double, store_single,
+    bytes_of, column_sets, greatest, has_spare, has_three, inverted_rows, load_double, load_single,
+    store_double, store_single, store_zeros,
 };
-use super::levels::{levels_of, store_cells, Block};
-use super::{refused, WriteAnswer};
+use super::levels::{levels_of, rows_with_any, Block};
+use super::{refused, CountedAnswer};
 
 /// Whether rows, columns or K lie outside their range; 0 wraps round to the largest number.
 #[inline(always)]
@@ -13,19 +13,126 @@ fn outside(rows: usize, columns: usize, k: usize) -> bool {
     (rows.wrapping_sub(1) | columns.wrapping_sub(1)) > 63 || k.wrapping_sub(1) > 2
 }
 
-/// The grid write of document 01.
+/// Whether a word of a block has a bit past the last column; with 64 columns there is none.
+#[inline(always)]
+fn has_bit_past(columns: usize, block: Block) -> bool {
+    if columns == 64 {
+        return false;
+    }
+    let words = block.data.iter().zip(block.mask).zip(block.values);
+    let all = words.fold(0, |all, ((data, mask), values)| all | data | mask | values);
+    all >> columns != 0
+}
+
+/// The grid plan of documents 01 and 02.
 #[inline(never)]
-#[allow(clippy::too_many_arguments)]
-pub fn write(
+pub fn plan(
     rows: usize,
     columns: usize,
     k: usize,
     data: &[u64],
     mask: &[u64],
     values: &[u64],
-    cells: &mut [u64],
     counters: &mut [u8],
-) -> WriteAnswer {
+) -> CountedAnswer {
+    if outside(rows, columns, k) {
+        return refused(1);
+    }
+    let lengths_differ = data.len() != rows
+        || mask.len() != rows
+        || values.len() != rows
+        || counters.len() != bytes_of(rows, columns, k);
+    if lengths_differ {
+        return refused(2);
+    }
+    let block = Block { data, mask, values };
+    if has_bit_past(columns, block) {
+        return refused(3);
+    }
+    let Some(levels) = levels_of(k, block) else {
+        return refused(7);
+    };
+    let [first, second, third] = levels.sets;
+    if first[1] == 0 {
+        store_zeros(counters);
+    } else if k == 1 {
+        store_single(rows, first[0], first[1], counters);
+    } else {
+        let low = [
+            first[0] ^ second[0] ^ third[0],
+            first[1] ^ second[1] ^ third[1],
+        ];
+        store_double(rows, low, second, counters);
+    }
+    CountedAnswer {
+        number: 0,
+        counts: [levels.count(), levels.faults],
+    }
+}
+
+/// The stuck cells of a block whose rows invert what the function says, or nothing if one of them would read wrong.
+#[inline(always)]
+fn masked_faults(block: Block, inverted: impl Fn(usize) -> u64) -> Option<usize> {
+    let Block { data, mask, values } = block;
+    let mut faults = 0;
+    let mut misread = 0;
+    let mut rest = rows_with_any(mask);
+    while rest != 0 {
+        let row = rest.trailing_zeros() as usize;
+        misread |= (data[row] ^ values[row] ^ inverted(row)) & mask[row];
+        faults += mask[row].count_ones() as usize;
+        rest &= rest - 1;
+    }
+    if misread == 0 {
+        Some(faults)
+    } else {
+        None
+    }
+}
+
+/// Inverts the words of these rows at these columns.
+#[inline(always)]
+fn invert_single(row_set: u64, column_set: u64, words: &mut [u64]) {
+    let mut rest = row_set;
+    while rest != 0 {
+        words[rest.trailing_zeros() as usize] ^= column_set;
+        rest &= rest - 1;
+    }
+}
+
+/// What a row of each counter inverts: the smaller of the two counters is odd.
+#[inline(always)]
+fn inverted_by(rows: usize, columns: usize, counters: [u64; 4]) -> [u64; 4] {
+    let (low, high) = column_sets(rows, columns, counters);
+    [0, low | high, low & !high, low]
+}
+
+/// Inverts in each of these rows, 32 to a word, what its counter asks for.
+#[inline(always)]
+fn invert_double(rows: [u64; 2], counters: [u64; 4], inverted: [u64; 4], words: &mut [u64]) {
+    for (half, (mut rest, counters)) in words.chunks_mut(32).zip(rows.into_iter().zip(counters)) {
+        while rest != 0 {
+            let place = rest.trailing_zeros() as usize;
+            half[place / 2] ^= inverted[(counters >> place & 3) as usize];
+            rest &= rest - 1;
+        }
+    }
+}
+
+/// The grid store of document 02. Where every stuck cell reads as its data bit, it holds the data inverted as a sound one
+/// would: the cells need no mask.
+#[inline(never)]
+#[allow(clippy::too_many_arguments)]
+pub fn store(
+    rows: usize,
+    columns: usize,
+    k: usize,
+    data: &[u64],
+    mask: &[u64],
+    values: &[u64],
+    counters: &[u8],
+    cells: &mut [u64],
+) -> CountedAnswer {
     if outside(rows, columns, k) {
         return refused(1);
     }
@@ -37,35 +144,42 @@ pub fn write(
     if lengths_differ {
         return refused(2);
     }
-    // With 64 columns there is no bit past the last one.
-    if columns < 64 {
-        let words = data.iter().zip(mask).zip(values);
-        let all = words.fold(0, |all, ((data, mask), values)| all | data | mask | values);
-        if all >> columns != 0 {
-            return refused(3);
-        }
-    }
-
     let block = Block { data, mask, values };
-    let Some(levels) = levels_of(k, block) else {
-        return refused(7);
-    };
-    store_cells(&levels, data, cells);
-    let [first, second, third] = levels.sets;
-    if first[1] == 0 {
-        counters.fill(0);
-    } else if k == 1 {
-        store_single(rows, first[0], first[1], counters);
-    } else {
-        let low = [
-            first[0] ^ second[0] ^ third[0],
-            first[1] ^ second[1] ^ third[1],
-        ];
-        store_double(rows, low, second, counters);
+    if has_bit_past(columns, block) || has_spare(rows, columns, k, counters) {
+        return refused(3);
     }
-    WriteAnswer {
+    if k == 1 {
+        let (row_set, column_set) = load_single(rows, counters);
+        let inverted = |row: usize| column_set & (row_set >> row & 1).wrapping_neg();
+        let Some(faults) = masked_faults(block, inverted) else {
+            return refused(13);
+        };
+        cells.copy_from_slice(data);
+        invert_single(row_set, column_set, cells);
+        return CountedAnswer {
+            number: 0,
+            counts: [usize::from(row_set | column_set != 0), faults],
+        };
+    }
+    let words = load_double(counters);
+    if k == 2 && has_three(words) {
+        return refused(4);
+    }
+    let rows_inverted = inverted_rows(rows, words);
+    let inverted = if rows_inverted == [0, 0] {
+        [0; 4]
+    } else {
+        inverted_by(rows, columns, words)
+    };
+    let of_row = |row: usize| inverted[(words[row >> 5 & 1] >> ((2 * row) & 63) & 3) as usize];
+    let Some(faults) = masked_faults(block, of_row) else {
+        return refused(13);
+    };
+    cells.copy_from_slice(data);
+    invert_double(rows_inverted, words, inverted, cells);
+    CountedAnswer {
         number: 0,
-        counts: [levels.count(), levels.faults],
+        counts: [greatest(words), faults],
     }
 }
 
@@ -96,11 +210,7 @@ pub fn read(
     if k == 1 {
         let (row_set, column_set) = load_single(rows, counters);
         out.copy_from_slice(cells);
-        let mut rest = row_set;
-        while rest != 0 {
-            out[rest.trailing_zeros() as usize] ^= column_set;
-            rest &= rest - 1;
-        }
+        invert_single(row_set, column_set, out);
         return 0;
     }
     let words = load_double(counters);
@@ -112,15 +222,7 @@ pub fn read(
     if rows_inverted == [0, 0] {
         return 0;
     }
-    let (low, high) = column_sets(rows, columns, words);
-    // What a row of each counter inverts: the smaller of the two counters is odd.
-    let inverted = [0, low | high, low & !high, low];
-    for (half, (mut rest, word)) in out.chunks_mut(32).zip(rows_inverted.into_iter().zip(words)) {
-        while rest != 0 {
-            let place = rest.trailing_zeros() as usize;
-            half[place / 2] ^= inverted[(word >> place & 3) as usize];
-            rest &= rest - 1;
-        }
-    }
+    let inverted = inverted_by(rows, columns, words);
+    invert_double(rows_inverted, words, inverted, out);
     0
 }

@@ -1,6 +1,6 @@
-//! The levels of a grid write as sets of bits; of the rows only those that hold a stuck cell are visited.
+//! The levels of a grid plan as sets of bits; of the rows only those that hold a stuck cell are visited.
 
-/// The lent words of a write.
+/// The lent words of a plan or a store.
 #[derive(Clone, Copy)]
 pub struct Block<'a> {
     pub data: &'a [u64],
@@ -23,13 +23,22 @@ impl Levels {
     }
 }
 
-/// The set of the words that are not 0.
+/// The set of the rows whose word is not 0.
 #[inline(always)]
-fn set_of_rows(words: &[u64]) -> u64 {
-    words
+pub fn rows_with_any(words: &[u64]) -> u64 {
+    let (eights, rest) = words.as_chunks::<8>();
+    let mut set = rest
         .iter()
         .rev()
-        .fold(0, |set, word| set << 1 | u64::from(*word != 0))
+        .fold(0, |set, word| set << 1 | u64::from(*word != 0));
+    for eight in eights.iter().rev() {
+        // Within eight rows each bit has its own place, so that none waits for another.
+        let bits = eight.iter().enumerate().fold(0, |bits, (place, word)| {
+            bits | u64::from(*word != 0) << place
+        });
+        set = set << 8 | bits;
+    }
+    set
 }
 
 /// The levels of a block, or nothing if a wrong cell is left after level K.
@@ -38,7 +47,7 @@ pub fn levels_of(k: usize, block: Block) -> Option<Levels> {
     let Block { data, mask, values } = block;
     let mut faults = 0;
     let mut taken = [0; 2];
-    let mut rest = set_of_rows(mask);
+    let mut rest = rows_with_any(mask);
     while rest != 0 {
         let row = rest.trailing_zeros() as usize;
         let wrong = (data[row] ^ values[row]) & mask[row];
@@ -69,20 +78,4 @@ pub fn levels_of(k: usize, block: Block) -> Option<Levels> {
         return None;
     }
     Some(Levels { sets, faults })
-}
-
-/// Stores the cells. Every stuck cell reads back as its data, so it holds the data inverted as a sound one would: the mask is
-/// not needed any more.
-#[inline(always)]
-pub fn store_cells(levels: &Levels, data: &[u64], cells: &mut [u64]) {
-    let [first, second, third] = levels.sets;
-    cells.copy_from_slice(data);
-    let mut rest = first[0];
-    while rest != 0 {
-        let row = rest.trailing_zeros() as usize;
-        let of_second = second[1] & (second[0] >> row & 1).wrapping_neg();
-        let of_third = third[1] & (third[0] >> row & 1).wrapping_neg();
-        cells[row] ^= first[1] ^ of_second ^ of_third;
-        rest &= rest - 1;
-    }
 }

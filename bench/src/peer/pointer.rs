@@ -1,7 +1,7 @@
 //! The peer's pointer rows: a row as eight words, and its metadata as one double word.
 
 use super::bytes::{load, store};
-use super::{refused, WriteAnswer};
+use super::{refused, CountedAnswer};
 
 /// A row of 512 cells as words; position p is bit p mod 64 of word p / 64.
 type Row = [u64; 8];
@@ -60,7 +60,7 @@ pub fn write(
     values: &[u8],
     cells: &mut [u8],
     metadata: &mut [u8],
-) -> WriteAnswer {
+) -> CountedAnswer {
     if n.wrapping_sub(1) > 9 {
         return refused(1);
     }
@@ -146,7 +146,7 @@ pub fn write(
     };
     store_row(cells, stored);
     store(metadata, packed | rest);
-    WriteAnswer {
+    CountedAnswer {
         number: 0,
         counts: [total, new],
     }

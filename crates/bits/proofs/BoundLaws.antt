@@ -1,4 +1,4 @@
--- Laws of what is said of all indices below a bound: some, sum, list. Assumes nothing.
+-- Laws of what is said of all indices below a bound: some, sum, most, list. Assumes nothing.
 use mathlib.Core.Path.{_≡_, refl, sym, ap, ap₂, subst, _∙_}
 use mathlib.Core.Bool.{Bool, true, false, _||_, or-assoc}
 use mathlib.Core.List.{List, [], _∷_, _++_}
@@ -11,7 +11,7 @@ use borrow.Author.Tests.{lt-ltb, le-ltb}
 use lib.Dec.{ltb}
 use lib.ListN.{length, getD, take, set, length-append, List·getD-append}
 use lib.Seq.{getD-at, take-suc-set, take-length, ext-getD}
-use Rattle.bits.specs.Bits.{num, some, sum, list}
+use Rattle.bits.specs.Bits.{num, some, sum, most, list}
 use Rattle.bits.proofs.TestLaws.{clash, false-when, lt-or-le, num-lt}
 
 -- ---- some
@@ -120,6 +120,22 @@ pub sum-below : (n a : ℕ) → sum n (λ k. num (ltb k a)) ≡ min n a
 unfolding sum
 sum-below zero a = omega arith
 sum-below (suc n) a = let e : sum n (λ k. num (ltb k a)) ≡ min n a = sum-below n a in ⊎-elim (λ h. rw (lt-ltb n a h) (omega arith)) (λ h. rw (le-ltb n a h) (omega arith)) (lt-or-le n a)
+
+-- ---- most
+
+-- none is greater, and some index has it
+pub most-le : (n : ℕ) (f : ℕ → ℕ) (i : ℕ) → i < n → f i ≤ most n f
+unfolding most
+most-le zero f i l = absurd (omega arith)
+most-le (suc n) f i l = ⊎-elim (λ k. omega (arith, most-le n f i k)) (λ k. let e : i ≡ n = omega arith in rw e (omega arith)) (lt-or-le i n)
+
+pub most-at : (n : ℕ) (f : ℕ → ℕ) → 0 < n → (i : ℕ) × (i < n) × (f i ≡ most n f)
+unfolding most
+most-at zero f l = absurd (omega arith)
+most-at (suc zero) f l = (0, omega arith, omega arith)
+most-at (suc (suc n)) f l =
+    let (i, p, q) = most-at (suc n) f (omega arith) in
+    ⊎-elim (λ k. (i, omega arith, omega (arith, q))) (λ k. (suc n, omega arith, omega arith)) (lt-or-le (f (suc n)) (most (suc n) f))
 
 -- ---- list
 

@@ -21,6 +21,11 @@ module _ (P : ℕ → Type 0) where
       let over : y < suc x → ⊥ = λ l. r .lowest y l p in
       ⊎-elim (λ l. absurd (below l)) (λ l. ⊎-elim (λ q. absurd (over q)) (λ q. omega arith) (lt-or-le y (suc x))) (lt-or-le (suc x) y)
 
+  -- no other is
+  pub lowest-one : (x y : ℕ) → Lowest P x → Lowest P y → x ≡ y
+  lowest-one x zero r s = lowest-none x r (s .none refl)
+  lowest-one x (suc y) r s = lowest-is x (suc y) r (s .applies (omega arith)) (s .lowest)
+
   -- ---- tests in turn
 
   -- of the numbers from a on that apply, x is the lowest

@@ -86,6 +86,13 @@ xor-assoc true true c = xor-twice true c ∙ sym (xor-false c)
 xor-assoc true false c = ap (xor true) (xor-false c)
 xor-assoc false b c = xor-false (xor b c) ∙ ap (λ t. xor t c) (sym (xor-false b))
 
+pub xor-none : (a b : Bool) → (xor a b ≡ false) ↔ (b ≡ a)
+unfolding xor
+xor-none true true = (λ _. refl, λ _. refl)
+xor-none true false = (λ h. sym h, λ h. sym h)
+xor-none false true = (λ h. h, λ h. h)
+xor-none false false = (λ _. refl, λ _. refl)
+
 pub xor-iff : (a b : Bool) → (xor a b ≡ true) ↔ (b ≡ not a)
 unfolding xor
 xor-iff true true = (λ h. sym h, λ h. sym h)

@@ -1,6 +1,6 @@
 -- Bits, words, digits and bytes: the words that every other definition is said in. Bits, digits, bytes and elements are numbered from 0, the lowest
 -- or first of them. Every definition computes. Assumes nothing.
-use Prim.Native.Nat.{ℕ, zero, suc, _+_, _*_, _/_, _%_, _^_, _<_}
+use Prim.Native.Nat.{ℕ, zero, suc, _+_, _*_, _/_, _%_, _^_, _<_, max}
 use mathlib.Core.Bool.{Bool, true, false, _||_}
 use mathlib.Core.List.{List, [], _∷_, _++_}
 use lib.ListN.{getD}
@@ -17,6 +17,11 @@ some (suc n) f = f n || some n f
 unfoldable pub sum : ℕ → (ℕ → ℕ) → ℕ
 sum zero f = 0
 sum (suc n) f = f n + sum n f
+
+-- the greatest of f 0, f 1, .. , n of them, or 0
+unfoldable pub most : ℕ → (ℕ → ℕ) → ℕ
+most zero f = 0
+most (suc n) f = max (f n) (most n f)
 
 -- f 0, f 1, .. , n of them in that order
 unfoldable pub list : {A : Type 0} → ℕ → (ℕ → A) → List A

@@ -33,16 +33,21 @@ pub data LineBy : ℕ → List ℕ → List (List ℕ) → List ℕ → Type 0 w
       → length out′ ≡ length out
       → LineBy 2 (n ∷ []) (cells ∷ metadata ∷ out ∷ [])
       (line (decimal number) (bufferText 2 out′ ∷ []))
-  gridWrite : {rows columns k number levels faults : ℕ} {wanted mask values cells counters cells′ counters′ : List ℕ}
-      → grid.Write (block rows columns wanted mask values) k cells counters (record { number = number; levels = levels; faults = faults }) cells′ counters′
-      → length cells′ ≡ length cells → length counters′ ≡ length counters
-      → LineBy 3 (rows ∷ columns ∷ k ∷ []) (wanted ∷ mask ∷ values ∷ cells ∷ counters ∷ [])
-      (line (decimal number) (decimal levels ∷ decimal faults ∷ bufferText 16 cells′ ∷ bufferText 2 counters′ ∷ []))
+  gridPlan : {rows columns k number levels faults : ℕ} {wanted mask values counters counters′ : List ℕ}
+      → grid.Plan (block rows columns wanted mask values) k counters (record { number = number; levels = levels; faults = faults }) counters′
+      → length counters′ ≡ length counters
+      → LineBy 3 (rows ∷ columns ∷ k ∷ []) (wanted ∷ mask ∷ values ∷ counters ∷ [])
+      (line (decimal number) (decimal levels ∷ decimal faults ∷ bufferText 2 counters′ ∷ []))
   gridRead : {rows columns k number : ℕ} {cells counters out out′ : List ℕ}
       → grid.Read rows columns k cells counters out (record { number = number }) out′
       → length out′ ≡ length out
       → LineBy 4 (rows ∷ columns ∷ k ∷ []) (cells ∷ counters ∷ out ∷ [])
       (line (decimal number) (bufferText 16 out′ ∷ []))
+  gridStore : {rows columns k number levels faults : ℕ} {wanted mask values counters cells cells′ : List ℕ}
+      → grid.Store (block rows columns wanted mask values) k counters cells (record { number = number; levels = levels; faults = faults }) cells′
+      → length cells′ ≡ length cells
+      → LineBy 5 (rows ∷ columns ∷ k ∷ []) (wanted ∷ mask ∷ values ∷ counters ∷ cells ∷ [])
+      (line (decimal number) (decimal levels ∷ decimal faults ∷ bufferText 16 cells′ ∷ []))
 
 -- the same of a call that stands at the front of the bytes, with its tag and whatever it is
 abbrev pub LineAt : List ℕ → ℕ → List ℕ → Type 0

@@ -61,8 +61,9 @@ table =
     noForm
     ∷ form 1 5 (1 ∷ 1 ∷ 1 ∷ 1 ∷ 1 ∷ [])
     ∷ form 1 3 (1 ∷ 1 ∷ 1 ∷ 0 ∷ 0 ∷ [])
-    ∷ form 3 5 (8 ∷ 8 ∷ 8 ∷ 8 ∷ 1 ∷ [])
+    ∷ form 3 4 (8 ∷ 8 ∷ 8 ∷ 1 ∷ 0 ∷ [])
     ∷ form 3 3 (8 ∷ 1 ∷ 8 ∷ 0 ∷ 0 ∷ [])
+    ∷ form 3 5 (8 ∷ 8 ∷ 8 ∷ 1 ∷ 8 ∷ [])
     ∷ []
 
 unfoldable pub formOf : ℕ → Form

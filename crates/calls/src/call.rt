@@ -64,36 +64,32 @@ fn pointer_read(s: &[u8], out: &mut [u8], put: usize) -> usize
     put_end(out, b)
 }
 
-fn grid_write(s: &[u8], out: &mut [u8], put: usize) -> usize
+fn grid_plan(s: &[u8], out: &mut [u8], put: usize) -> usize
     requires { ⌜ Whole (now s) 3 ⌝ }
     ensures { λ r. ⌜ PutLine (LineAt (now (s .entry)) 3) (now (out .entry)) put (now (out .exit)) r ⌝ }
 {
     let mut wanted = [0u64; MOST_ELEMENTS];
     let mut mask = [0u64; MOST_ELEMENTS];
     let mut values = [0u64; MOST_ELEMENTS];
-    let mut cells = [0u64; MOST_ELEMENTS];
     let mut counters = [0u8; MOST_ELEMENTS];
     let d = load_words(s, 3, 0, &mut wanted);
     let m = load_words(s, 3, 1, &mut mask);
     let v = load_words(s, 3, 2, &mut values);
-    let i = load_words(s, 3, 3, &mut cells);
-    let j = load_bytes(s, 3, 4, &mut counters);
-    let r = grid::write(
+    let i = load_bytes(s, 3, 3, &mut counters);
+    let r = grid::plan(
         call_number(s, 0),
         call_number(s, 1),
         call_number(s, 2),
         &wanted[..d],
         &mask[..m],
         &values[..v],
-        &mut cells[..i],
-        &mut counters[..j],
+        &mut counters[..i],
     );
     let a = put_number(out, put, r.number);
     let b = put_count(out, a, r.levels);
     let c = put_count(out, b, r.faults);
-    let e = put_words(out, c, &cells[..i]);
-    let f = put_bytes(out, e, &counters[..j]);
-    put_end(out, f)
+    let e = put_bytes(out, c, &counters[..i]);
+    put_end(out, e)
 }
 
 fn grid_read(s: &[u8], out: &mut [u8], put: usize) -> usize
@@ -117,6 +113,35 @@ fn grid_read(s: &[u8], out: &mut [u8], put: usize) -> usize
     put_end(out, b)
 }
 
+fn grid_store(s: &[u8], out: &mut [u8], put: usize) -> usize
+    requires { ⌜ Whole (now s) 5 ⌝ }
+    ensures { λ r. ⌜ PutLine (LineAt (now (s .entry)) 5) (now (out .entry)) put (now (out .exit)) r ⌝ }
+{
+    let mut wanted = [0u64; MOST_ELEMENTS];
+    let mut mask = [0u64; MOST_ELEMENTS];
+    let mut values = [0u64; MOST_ELEMENTS];
+    let mut cells = [0u64; MOST_ELEMENTS];
+    let d = load_words(s, 5, 0, &mut wanted);
+    let m = load_words(s, 5, 1, &mut mask);
+    let v = load_words(s, 5, 2, &mut values);
+    let i = load_words(s, 5, 4, &mut cells);
+    let r = grid::store(
+        call_number(s, 0),
+        call_number(s, 1),
+        call_number(s, 2),
+        &wanted[..d],
+        &mask[..m],
+        &values[..v],
+        elements(s, 5, 3),
+        &mut cells[..i],
+    );
+    let a = put_number(out, put, r.number);
+    let b = put_count(out, a, r.levels);
+    let c = put_count(out, b, r.faults);
+    let e = put_words(out, c, &cells[..i]);
+    put_end(out, e)
+}
+
 // Makes a call with this tag, and puts its line.
 fn answer(s: &[u8], tag: u8, out: &mut [u8], put: usize) -> usize
     requires { ⌜ Whole (now s) tag ⌝ }
@@ -125,8 +150,9 @@ fn answer(s: &[u8], tag: u8, out: &mut [u8], put: usize) -> usize
     match tag {
         1 => pointer_write(s, out, put),
         2 => pointer_read(s, out, put),
-        3 => grid_write(s, out, put),
+        3 => grid_plan(s, out, put),
         4 => grid_read(s, out, put),
+        5 => grid_store(s, out, put),
         _ => put,
     }
 }

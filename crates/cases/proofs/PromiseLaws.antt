@@ -10,7 +10,7 @@ use Rattle.pointer_promises.specs.Pointer.{active, held, encode, verdict}
 use Rattle.pointer_promises.specs.Refusals.{InRange, outOfRange}
 use Rattle.pointer_promises.proofs.FormedLaws.{active-is}
 use Rattle.pointer_promises.proofs.RefusalLaws.{range-iff}
-use Rattle.cases.specs.Lines.{Line, Call, metadata, pointerRead, pointerWrite, gridRead, gridWrite, byNumber, countersIn, line}
+use Rattle.cases.specs.Lines.{Line, Call, metadata, pointerRead, pointerWrite, gridRead, gridPlan, gridStore, byNumber, countersIn, line}
 use Rattle.cases.specs.Statements.{Promised}
 
 -- an ending x with the number of its call is what the number says
@@ -19,10 +19,10 @@ by-number : (answered computed : ℕ) (x accepted : Line) (refused : ℕ → Lin
 by-number answered zero x accepted refused e f g = f e
 by-number answered (suc n) x accepted refused e f g = g (λ z. omega arith) ∙ ap refused e
 
--- a refusal has no third buffer
-none : (answered : ℕ) (third : List (List ℕ)) → answered ≢ 0 → byNumber answered third [] ≡ []
-none zero third h = absurd (h refl)
-none (suc n) third h = refl
+-- a refused plan has no second buffer
+none : (answered : ℕ) (second : List (List ℕ)) → answered ≢ 0 → byNumber answered second [] ≡ []
+none zero second h = absurd (h refl)
+none (suc n) second h = refl
 
 promised-metadata : (n : ℕ) (es : List ℕ) → Promised (metadata n es) (line (metadata n es))
 unfolding line
@@ -54,15 +54,23 @@ promised-grid-read m n k cells counters out answer out′ r =
     (λ z i. record { numbers = z i ∷ []; buffers = e .shown z i ∷ [] })
     (λ z i. record { numbers = answer .number ∷ []; buffers = e .untouched (omega arith) i ∷ [] })
 
-promised-grid : (b : Block) (k : ℕ) (cells counters : List ℕ) → Promised (gridWrite b k cells counters) (line (gridWrite b k cells counters))
+promised-plan : (b : Block) (k : ℕ) (counters : List ℕ) → Promised (gridPlan b k counters) (line (gridPlan b k counters))
 unfolding line
-promised-grid b k cells counters answer cells′ counters′ w =
+promised-plan b k counters answer counters′ w =
     let e = w .exactly in
-    by-number (answer .number) _ _ _ (λ x. record { numbers = x ∷ 0 ∷ 0 ∷ []; buffers = cells ∷ counters ∷ [] }) (e .number)
-    (λ z i. record { numbers = z i ∷ e .levelsAre z i ∷ e .faultsAre z i ∷ []; buffers = e .cellsAre z i ∷ e .countersAre z i ∷ byNumber (z i) (countersIn b k (e .countersAre z i) ∷ []) [] })
+    by-number (answer .number) _ _ _ (λ x. record { numbers = x ∷ 0 ∷ 0 ∷ []; buffers = counters ∷ [] }) (e .number)
+    (λ z i. record { numbers = z i ∷ e .levelsAre z i ∷ e .faultsAre z i ∷ []; buffers = e .countersAre z i ∷ byNumber (z i) (countersIn b k (e .countersAre z i) ∷ []) [] })
     (λ z.
-    let (p, q, c, d) = e .untouched (omega arith) in
-    λ i. record { numbers = answer .number ∷ p i ∷ q i ∷ []; buffers = c i ∷ d i ∷ none (answer .number) (countersIn b k counters′ ∷ []) z i })
+    let (p, q, c) = e .untouched (omega arith) in
+    λ i. record { numbers = answer .number ∷ p i ∷ q i ∷ []; buffers = c i ∷ none (answer .number) (countersIn b k counters′ ∷ []) z i })
+
+promised-store : (b : Block) (k : ℕ) (counters cells : List ℕ) → Promised (gridStore b k counters cells) (line (gridStore b k counters cells))
+unfolding line
+promised-store b k counters cells answer cells′ w =
+    let e = w .exactly in
+    by-number (answer .number) _ _ _ (λ x. record { numbers = x ∷ 0 ∷ 0 ∷ []; buffers = cells ∷ [] }) (e .number)
+    (λ z i. record { numbers = z i ∷ e .levelsAre z i ∷ e .faultsAre z i ∷ []; buffers = e .cellsAre z i ∷ [] })
+    (λ z. let (p, q, c) = e .untouched (omega arith) in λ i. record { numbers = answer .number ∷ p i ∷ q i ∷ []; buffers = c i ∷ [] })
 
 -- so every call's line is promised
 pub promised : (c : Call) → Promised c (line c)
@@ -70,4 +78,5 @@ promised (metadata n es) = promised-metadata n es
 promised (pointerRead n cells m out) = promised-read n cells m out
 promised (pointerWrite n wanted mask values cells m) = promised-write n wanted mask values cells m
 promised (gridRead m n k cells counters out) = promised-grid-read m n k cells counters out
-promised (gridWrite b k cells counters) = promised-grid b k cells counters
+promised (gridPlan b k counters) = promised-plan b k counters
+promised (gridStore b k counters cells) = promised-store b k counters cells

@@ -1,10 +1,12 @@
--- Calls whose lines a misreading of document 01 would change, where no starred case is against it: each row names the sentence. Assumes nothing.
+-- Calls whose lines a misreading of document 01, or of document 02, A7, would change, where no starred case is against it: each row names the sentence.
+-- Assumes nothing.
 use Prim.Native.Nat.{ℕ}
-use mathlib.Core.List.{List, [], _∷_}
+use mathlib.Core.List.{List, [], _∷_, _++_}
 use lib.ListN.{replicate}
+use Rattle.rdis.specs.Block.{Block}
 use Rattle.grid_promises.specs.Calls.{block}
-use Rattle.cases.specs.Lines.{Line, ones, Call, pointerRead, pointerWrite, gridRead, gridWrite}
-use Rattle.cases.specs.Table.{Row, old, G3}
+use Rattle.cases.specs.Lines.{Line, ones, Call, pointerRead, pointerWrite, gridRead, gridPlan, gridStore}
+use Rattle.cases.specs.Table.{Row, old, G2, G3, G5, storeSmall, planned, stores, refused}
 
 -- ---- pointer rows
 
@@ -50,34 +52,126 @@ rowEdges =
     ∷ record { call = pointerRead 1 (ones (3 ∷ 511 ∷ [])) (0xFF ∷ 0x03 ∷ []) old; expected = record { numbers = 0 ∷ []; buffers = ones (3 ∷ []) ∷ [] } }
     ∷ []
 
--- ---- grid blocks
-
--- accepted: L, F, the cells, the packed counters, and the counters of rows and then columns
-abbrev pub masked : ℕ → ℕ → List ℕ → List ℕ → List ℕ → Line
-masked l f cells bytes counters = record { numbers = 0 ∷ l ∷ f ∷ []; buffers = cells ∷ bytes ∷ counters ∷ [] }
+-- ---- grid blocks: reads
 
 abbrev pub shown : List ℕ → Line
 shown out = record { numbers = 0 ∷ []; buffers = out ∷ [] }
 
-abbrev pub blockEdges : List Row
-blockEdges =
-    -- the row counters come first where rows and columns are not as many: 1 by 2 and 2 by 1, written and read
-    record { call = gridWrite (block 1 2 (0 ∷ []) (2 ∷ []) (2 ∷ [])) 1 (7 ∷ []) (9 ∷ []); expected = masked 1 1 (2 ∷ []) (0x05 ∷ []) (1 ∷ 0 ∷ 1 ∷ []) }
-    ∷ record { call = gridWrite (block 2 1 (0 ∷ 0 ∷ []) (0 ∷ 1 ∷ []) (0 ∷ 1 ∷ [])) 1 (7 ∷ 8 ∷ []) (9 ∷ []); expected = masked 1 1 (0 ∷ 1 ∷ []) (0x06 ∷ []) (0 ∷ 1 ∷ 1 ∷ []) }
-    ∷ record { call = gridRead 1 2 1 (3 ∷ []) (0x05 ∷ []) (7 ∷ []); expected = shown (1 ∷ []) }
+abbrev pub readEdges : List Row
+readEdges =
+    -- the row counters come first where rows and columns are not as many
+    record { call = gridRead 1 2 1 (3 ∷ []) (0x05 ∷ []) (7 ∷ []); expected = shown (1 ∷ []) }
     ∷ record { call = gridRead 2 1 1 (0 ∷ 0 ∷ []) (0x05 ∷ []) (7 ∷ 8 ∷ []); expected = shown (1 ∷ 0 ∷ []) }
-    -- where the stuck cells are right, no level is taken, and F counts them
-    ∷ record { call = gridWrite (block 1 1 (0 ∷ []) (1 ∷ []) (0 ∷ [])) 1 (7 ∷ []) (9 ∷ []); expected = masked 0 1 (0 ∷ []) (0x00 ∷ []) (0 ∷ 0 ∷ []) }
-    -- a value bit at a sound cell is ignored
-    ∷ record { call = gridWrite (block 2 2 (0 ∷ 0 ∷ []) (0 ∷ 0 ∷ []) (3 ∷ 1 ∷ [])) 1 (7 ∷ 8 ∷ []) (9 ∷ []); expected = masked 0 0 (0 ∷ 0 ∷ []) (0x00 ∷ []) (0 ∷ 0 ∷ 0 ∷ 0 ∷ []) }
-    -- a sound cell that a level took stores the other bit than its data's, a 0 for a 1 too
-    ∷ record { call = gridWrite (block 2 2 (3 ∷ 3 ∷ []) (1 ∷ 2 ∷ []) (0 ∷ 0 ∷ [])) 1 (7 ∷ 8 ∷ []) (9 ∷ []); expected = masked 1 2 (0 ∷ 0 ∷ []) (0x0F ∷ []) (1 ∷ 1 ∷ 1 ∷ 1 ∷ []) }
-    -- K may be 2, with counters as wide as for 3
-    ∷ record { call = gridWrite G3 2 (7 ∷ 8 ∷ []) (9 ∷ []); expected = masked 2 3 (1 ∷ 3 ∷ []) (0x96 ∷ []) (2 ∷ 1 ∷ 1 ∷ 2 ∷ []) }
-    -- a read takes counters that no write makes: rows 3 and 1, columns 2 and 0
+    -- counters that no plan makes are taken: rows 3 and 1, columns 2 and 0
     ∷ record { call = gridRead 2 2 3 (3 ∷ 3 ∷ []) (0x27 ∷ []) (7 ∷ 8 ∷ []); expected = shown (3 ∷ 2 ∷ []) }
     -- G10: a counter above K; the output stays as it was
     ∷ record { call = gridRead 2 2 2 (3 ∷ 3 ∷ []) (0xC0 ∷ []) (7 ∷ 8 ∷ []); expected = record { numbers = 4 ∷ []; buffers = (7 ∷ 8 ∷ []) ∷ [] } }
     -- with 64 columns no bit is past the last
     ∷ record { call = gridRead 1 64 1 (0xFFFFFFFFFFFFFFFF ∷ []) (replicate 9 0) (7 ∷ []); expected = shown (0xFFFFFFFFFFFFFFFF ∷ []) }
+    ∷ []
+
+-- ---- plans
+
+abbrev pub planEdges : List Row
+planEdges =
+    -- the row counters come first where rows and columns are not as many
+    record { call = gridPlan (block 1 2 (0 ∷ []) (2 ∷ []) (2 ∷ [])) 1 (9 ∷ []); expected = planned 1 1 (0x05 ∷ []) (1 ∷ 0 ∷ 1 ∷ []) }
+    ∷ record { call = gridPlan (block 2 1 (0 ∷ 0 ∷ []) (0 ∷ 1 ∷ []) (0 ∷ 1 ∷ [])) 1 (9 ∷ []); expected = planned 1 1 (0x06 ∷ []) (0 ∷ 1 ∷ 1 ∷ []) }
+    -- where the stuck cells are right, no level is taken, and F counts them
+    ∷ record { call = gridPlan (block 1 1 (0 ∷ []) (1 ∷ []) (0 ∷ [])) 1 (9 ∷ []); expected = planned 0 1 (0x00 ∷ []) (0 ∷ 0 ∷ []) }
+    -- a value bit at a sound cell is ignored
+    ∷ record { call = gridPlan (block 2 2 (0 ∷ 0 ∷ []) (0 ∷ 0 ∷ []) (3 ∷ 1 ∷ [])) 1 (9 ∷ []); expected = planned 0 0 (0x00 ∷ []) (0 ∷ 0 ∷ 0 ∷ 0 ∷ []) }
+    -- a cell stuck at 0 is wrong for the data 1: two wrong cells on no common line are one level
+    ∷ record { call = gridPlan (block 2 2 (3 ∷ 3 ∷ []) (1 ∷ 2 ∷ []) (0 ∷ 0 ∷ [])) 1 (9 ∷ []); expected = planned 1 2 (0x0F ∷ []) (1 ∷ 1 ∷ 1 ∷ 1 ∷ []) }
+    -- K may be 2, with counters as wide as for 3; the old counters, here above K, are only measured
+    ∷ record { call = gridPlan G3 2 (0xFF ∷ []); expected = planned 2 3 (0x96 ∷ []) (2 ∷ 1 ∷ 1 ∷ 2 ∷ []) }
+    -- so are their spare bits
+    ∷ record { call = gridPlan G2 1 (0xFC ∷ []); expected = planned 1 1 (0x03 ∷ []) (1 ∷ 1 ∷ []) }
+    -- the last of 64 rows, and the column's counter after it in a ninth byte
+    ∷ record {
+      call = gridPlan (block 64 1 (replicate 64 1) (replicate 63 0 ++ (1 ∷ [])) (replicate 64 0)) 1 (replicate 9 9);
+      expected = planned 1 1 (replicate 7 0 ++ (0x80 ∷ 0x01 ∷ [])) (replicate 63 0 ++ (1 ∷ 1 ∷ []));
+    }
+    ∷ []
+
+-- ---- stores
+
+-- one cell: its data bit, 1 where it is stuck, and its value
+abbrev pub cell : ℕ → ℕ → ℕ → Block
+cell d stuck value = block 1 1 (d ∷ []) (stuck ∷ []) (value ∷ [])
+
+-- a store of one cell by a byte of counters: the row's, then the column's
+abbrev pub storeCell : Block → ℕ → ℕ → Call
+storeCell b k byte = gridStore b k (byte ∷ []) (7 ∷ [])
+
+-- one row of two columns and two rows of one, with data 0; the last cell is stuck at 1 or none is
+abbrev pub wide : ℕ → Block
+wide stuck = block 1 2 (0 ∷ []) (stuck ∷ []) (2 ∷ [])
+
+abbrev pub tall : ℕ → Block
+tall stuck = block 2 1 (0 ∷ 0 ∷ []) (0 ∷ stuck ∷ []) (0 ∷ 1 ∷ [])
+
+abbrev pub storeEdges : List Row
+storeEdges =
+    -- 13 is given exactly where a stuck cell would read wrong: one that is right, by counters that invert it
+    record { call = storeCell (cell 0 1 0) 1 0x03; expected = refused 13 (7 ∷ []) }
+    ∷ record { call = storeCell (cell 1 1 1) 1 0x03; expected = refused 13 (7 ∷ []) }
+    -- and by counters that do not: one line's alone inverts nothing
+    ∷ record { call = storeCell (cell 0 1 0) 1 0x00; expected = stores 0 1 (0 ∷ []) }
+    ∷ record { call = storeCell (cell 0 1 0) 1 0x01; expected = stores 1 1 (0 ∷ []) }
+    ∷ record { call = storeCell (cell 1 1 1) 1 0x02; expected = stores 1 1 (1 ∷ []) }
+    -- one that is wrong, by both (G2 has the data 1)
+    ∷ record { call = storeCell (cell 0 1 1) 1 0x03; expected = stores 1 1 (1 ∷ []) }
+    ∷ record { call = storeCell (cell 0 1 1) 1 0x00; expected = refused 13 (7 ∷ []) }
+    -- a sound cell is never at fault, whatever its value bit: it holds its data bit, inverted where the counters say so
+    ∷ record { call = storeCell (cell 0 0 0) 1 0x03; expected = stores 1 0 (1 ∷ []) }
+    ∷ record { call = storeCell (cell 1 0 1) 1 0x03; expected = stores 1 0 (0 ∷ []) }
+    ∷ record { call = storeCell (cell 0 0 1) 1 0x00; expected = stores 0 0 (0 ∷ []) }
+    -- one stuck cell that reads wrong is enough, the first or the last
+    ∷ record { call = storeSmall (block 2 2 (0 ∷ 0 ∷ []) (3 ∷ 3 ∷ []) (1 ∷ 0 ∷ [])) 1 0x00; expected = refused 13 (7 ∷ 8 ∷ []) }
+    ∷ record { call = storeSmall (block 2 2 (0 ∷ 0 ∷ []) (3 ∷ 3 ∷ []) (0 ∷ 2 ∷ [])) 1 0x00; expected = refused 13 (7 ∷ 8 ∷ []) }
+    -- the row counters come first where rows and columns are not as many: the last cell stuck, by its own two counters and by others
+    ∷ record { call = gridStore (wide 2) 1 (0x05 ∷ []) (7 ∷ []); expected = stores 1 1 (2 ∷ []) }
+    ∷ record { call = gridStore (wide 2) 1 (0x06 ∷ []) (7 ∷ []); expected = refused 13 (7 ∷ []) }
+    ∷ record { call = gridStore (tall 1) 1 (0x06 ∷ []) (7 ∷ 8 ∷ []); expected = stores 1 1 (0 ∷ 1 ∷ []) }
+    ∷ record { call = gridStore (tall 1) 1 (0x05 ∷ []) (7 ∷ 8 ∷ []); expected = refused 13 (7 ∷ 8 ∷ []) }
+    -- and with no stuck cell
+    ∷ record { call = gridStore (wide 0) 1 (0x03 ∷ []) (7 ∷ []); expected = stores 1 0 (1 ∷ []) }
+    ∷ record { call = gridStore (tall 0) 1 (0x05 ∷ []) (7 ∷ 8 ∷ []); expected = stores 1 0 (1 ∷ 0 ∷ []) }
+    -- the smaller counter decides, not the larger (2 and 1), not the sum (1 and 1, 3 and 3), neither (3 and 2)
+    ∷ record { call = storeCell G2 2 0x06; expected = stores 2 1 (0 ∷ []) }
+    ∷ record { call = storeCell G2 2 0x05; expected = stores 1 1 (0 ∷ []) }
+    ∷ record { call = storeCell G2 3 0x0F; expected = stores 3 1 (0 ∷ []) }
+    ∷ record { call = storeCell G2 3 0x0B; expected = refused 13 (7 ∷ []) }
+    ∷ record { call = storeCell (cell 1 1 1) 3 0x0B; expected = stores 3 1 (1 ∷ []) }
+    ∷ record { call = storeCell (cell 1 0 0) 3 0x06; expected = stores 2 0 (0 ∷ []) }
+    ∷ record { call = storeCell (cell 1 0 0) 3 0x0E; expected = stores 3 0 (1 ∷ []) }
+    -- L is the greatest counter, though it inverts no cell: a row's alone, and a column's alone
+    ∷ record { call = gridStore (wide 0) 3 (0x03 ∷ []) (7 ∷ []); expected = stores 3 0 (0 ∷ []) }
+    ∷ record { call = gridStore (wide 0) 2 (0x20 ∷ []) (7 ∷ []); expected = stores 2 0 (0 ∷ []) }
+    ∷ record { call = gridStore (tall 0) 2 (0x08 ∷ []) (7 ∷ 8 ∷ []); expected = stores 2 0 (0 ∷ 0 ∷ []) }
+    -- though it is above the smaller of every two: row 1 and column 3
+    ∷ record { call = gridStore (tall 0) 3 (0x31 ∷ []) (7 ∷ 8 ∷ []); expected = stores 3 0 (1 ∷ 0 ∷ []) }
+    -- though its line holds no stuck cell and it inverts none, and another line does: row counters 1, 3, columns 2, 0; and row counters 2, 0, columns 1, 3
+    ∷ record { call = storeSmall (block 2 2 (0 ∷ 0 ∷ []) (2 ∷ 0 ∷ []) (0 ∷ 0 ∷ [])) 3 0x2D; expected = stores 3 1 (1 ∷ 0 ∷ []) }
+    ∷ record { call = storeSmall (block 2 2 (0 ∷ 0 ∷ []) (0 ∷ 1 ∷ []) (0 ∷ 0 ∷ [])) 3 0xD2; expected = stores 3 1 (1 ∷ 0 ∷ []) }
+    -- whoever made them: G3 is planned with 2, and rows 2 and 1 with columns 1 and 3 mask it too
+    ∷ record { call = storeSmall G3 3 0xD6; expected = stores 3 3 (1 ∷ 3 ∷ []) }
+    -- K may be 2, with counters as wide as for 3
+    ∷ record { call = storeSmall G3 2 0x96; expected = stores 2 3 (1 ∷ 3 ∷ []) }
+    -- G5, which differs from G3 in one cell, reads wrong by these
+    ∷ record { call = storeSmall G5 3 0x96; expected = refused 13 (7 ∷ 8 ∷ []) }
+    -- a sound cell that a level took stores the other bit than its data's, a 0 for a 1 too
+    ∷ record { call = storeSmall (block 2 2 (3 ∷ 3 ∷ []) (1 ∷ 2 ∷ []) (0 ∷ 0 ∷ [])) 1 0x0F; expected = stores 1 2 (0 ∷ 0 ∷ []) }
+    -- it judges its counters as a read does: a spare bit is 3, a counter above K is 4, of a column and of a row
+    ∷ record { call = storeCell (cell 0 0 0) 1 0x04; expected = refused 3 (7 ∷ []) }
+    ∷ record { call = storeSmall G3 2 0xD6; expected = refused 4 (7 ∷ 8 ∷ []) }
+    ∷ record { call = storeCell G2 2 0x07; expected = refused 4 (7 ∷ []) }
+    -- old cells are only measured: bits past the last column are no refusal, and are 0 afterwards
+    ∷ record { call = gridStore G2 1 (0x03 ∷ []) (0xFFFFFFFFFFFFFFFF ∷ []); expected = stores 1 1 (0 ∷ []) }
+    -- the last of 64 columns: its counter is in a ninth byte
+    ∷ record {
+      call = gridStore (block 1 64 (0xFFFFFFFFFFFFFFFF ∷ []) (1 ∷ []) (1 ∷ [])) 1 (1 ∷ replicate 7 0 ++ (1 ∷ [])) (7 ∷ []);
+      expected = stores 1 1 (0x7FFFFFFFFFFFFFFF ∷ []);
+    }
     ∷ []

@@ -3,12 +3,12 @@ use Prim.Native.Nat.{ℕ, zero, suc, _+_}
 use mathlib.Core.List.{List, [], _∷_}
 use lib.Dec.{eqb}
 use lib.ListN.{length, getD}
-use Rattle.bits.specs.Bits.{some, at, bytes}
+use Rattle.bits.specs.Bits.{some, most, at, bytes}
 use Rattle.rdis.specs.Block.{Block, faults}
 use Rattle.rdis.specs.Levels.{plan}
 use Rattle.rdis.specs.Cells.{stored, reading}
-use Rattle.rdis.specs.Packing.{width, inOrder, packed, unpacked, rowCounter, columnCounter}
-use Rattle.grid_promises.specs.Calls.{readNumber, writeNumber, used, rowsOf, columnsOf}
+use Rattle.rdis.specs.Packing.{width, inOrder, packed, unpacked, counter, rowCounter, columnCounter}
+use Rattle.grid_promises.specs.Calls.{readNumber, planNumber, storeNumber, used, rowsOf, columnsOf}
 use Rattle.pointer_promises.specs.Pointer as pointer
 
 -- a line: the number and the counts, and the buffers afterwards
@@ -26,9 +26,10 @@ pub data Call : Type 0 where
   -- a read and a write of a row of n entries
   pointerRead : ℕ → (cells metadata out : List ℕ) → Call
   pointerWrite : ℕ → (wanted mask values cells metadata : List ℕ) → Call
-  -- a read of rows, columns and K, and a write of a block with K levels
+  -- a read of rows, columns and K; a plan of a block with K levels, and a store of it by counters
   gridRead : (m n k : ℕ) (cells counters out : List ℕ) → Call
-  gridWrite : Block → ℕ → (cells counters : List ℕ) → Call
+  gridPlan : Block → ℕ → (counters : List ℕ) → Call
+  gridStore : Block → ℕ → (counters cells : List ℕ) → Call
 
 -- by the number: the first where it is 0, so where the call is accepted, else the second
 abbrev pub byNumber : {A : Type 0} → ℕ → A → A → A
@@ -61,13 +62,19 @@ line (gridRead m n k cells counters out) =
     byNumber (readNumber m n k cells counters (length out))
     (record { numbers = 0 ∷ []; buffers = reading m n (rowCounter (width k) counters) (columnCounter (width k) m counters) cells ∷ [] })
     (record { numbers = readNumber m n k cells counters (length out) ∷ []; buffers = out ∷ [] })
-line (gridWrite b k cells counters) =
-    byNumber (writeNumber b k (length cells) (length counters))
+line (gridPlan b k counters) =
+    byNumber (planNumber b k (length counters))
     (record {
       numbers = 0 ∷ used (plan b k) ∷ faults (b .rows) (b .mask) ∷ [];
       buffers =
-          stored b (rowsOf (plan b k)) (columnsOf (plan b k))
-          ∷ packed (width k) (inOrder (b .rows) (b .columns) (rowsOf (plan b k)) (columnsOf (plan b k)))
+          packed (width k) (inOrder (b .rows) (b .columns) (rowsOf (plan b k)) (columnsOf (plan b k)))
           ∷ countersIn b k (packed (width k) (inOrder (b .rows) (b .columns) (rowsOf (plan b k)) (columnsOf (plan b k)))) ∷ [];
     })
-    (record { numbers = writeNumber b k (length cells) (length counters) ∷ 0 ∷ 0 ∷ []; buffers = cells ∷ counters ∷ [] })
+    (record { numbers = planNumber b k (length counters) ∷ 0 ∷ 0 ∷ []; buffers = counters ∷ [] })
+line (gridStore b k counters cells) =
+    byNumber (storeNumber b k counters (length cells))
+    (record {
+      numbers = 0 ∷ most (b .rows + b .columns) (counter (width k) counters) ∷ faults (b .rows) (b .mask) ∷ [];
+      buffers = stored b (rowCounter (width k) counters) (columnCounter (width k) (b .rows) counters) ∷ [];
+    })
+    (record { numbers = storeNumber b k counters (length cells) ∷ 0 ∷ 0 ∷ []; buffers = cells ∷ [] })

@@ -5,14 +5,14 @@ use mathlib.Core.Path.{_≡_}
 use mathlib.Core.List.{List, [], _∷_, map}
 use Rattle.grid_promises.specs.Promises as grid
 use Rattle.grid_promises.specs.declared.ReadAnswer as gridReadAnswer
-use Rattle.grid_promises.specs.declared.WriteAnswer as gridAnswer
+use Rattle.grid_promises.specs.declared.Answer as gridAnswer
 use Rattle.pointer_promises.specs.Pointer.{held, after, verdict}
 use Rattle.pointer_promises.specs.Promises as pointer
 use Rattle.pointer_promises.specs.declared.ReadAnswer.{ReadAnswer}
 use Rattle.pointer_promises.specs.declared.WriteAnswer.{WriteAnswer}
-use Rattle.cases.specs.Lines.{Line, Call, metadata, pointerRead, pointerWrite, gridRead, gridWrite, byNumber, countersIn, line}
+use Rattle.cases.specs.Lines.{Line, Call, metadata, pointerRead, pointerWrite, gridRead, gridPlan, gridStore, byNumber, countersIn, line}
 use Rattle.cases.specs.Table.{Row, table}
-use Rattle.cases.specs.Edges.{rowEdges, blockEdges}
+use Rattle.cases.specs.Edges.{rowEdges, readEdges, planEdges, storeEdges}
 
 -- each of these calls comes to its line
 abbrev pub Computed : List Row → Type 0
@@ -22,7 +22,7 @@ abbrev pub EveryCase : Type 0
 EveryCase = Computed table
 
 abbrev pub EveryEdge : Type 0
-EveryEdge = Computed rowEdges × Computed blockEdges
+EveryEdge = Computed rowEdges × Computed readEdges × Computed planEdges × Computed storeEdges
 
 -- every answer, with the buffers at the end, that meets the promise of a call is this line
 abbrev pub Promised : Call → Line → Type 0
@@ -39,12 +39,15 @@ Promised (pointerWrite n wanted mask values cells m) l =
 Promised (gridRead m n k cells counters out) l =
     (answer : gridReadAnswer.ReadAnswer) (out′ : List ℕ) → grid.Read m n k cells counters out answer out′ → record { numbers = answer .number ∷ []; buffers = out′ ∷ [] } ≡ l
 -- where it is accepted, the counters that the bytes hold come last
-Promised (gridWrite b k cells counters) l =
-    (answer : gridAnswer.WriteAnswer) (cells′ counters′ : List ℕ) → grid.Write b k cells counters answer cells′ counters′
+Promised (gridPlan b k counters) l =
+    (answer : gridAnswer.Answer) (counters′ : List ℕ) → grid.Plan b k counters answer counters′
     → record {
       numbers = answer .number ∷ answer .levels ∷ answer .faults ∷ [];
-      buffers = cells′ ∷ counters′ ∷ byNumber (answer .number) (countersIn b k counters′ ∷ []) [];
+      buffers = counters′ ∷ byNumber (answer .number) (countersIn b k counters′ ∷ []) [];
     } ≡ l
+Promised (gridStore b k counters cells) l =
+    (answer : gridAnswer.Answer) (cells′ : List ℕ) → grid.Store b k counters cells answer cells′
+    → record { numbers = answer .number ∷ answer .levels ∷ answer .faults ∷ []; buffers = cells′ ∷ [] } ≡ l
 
 -- each of these rows is promised
 abbrev pub Every : List Row → Type 0
@@ -52,4 +55,4 @@ Every [] = Unit {0}
 Every (r ∷ rs) = Promised (r .call) (r .expected) × Every rs
 
 abbrev pub EveryPromise : Type 0
-EveryPromise = Every table × Every rowEdges × Every blockEdges
+EveryPromise = Every table × Every rowEdges × Every readEdges × Every planEdges × Every storeEdges

@@ -1,4 +1,5 @@
--- The starred cases of document 01, in its order. Old cells, counters and outputs are odd on purpose: a refusal has to leave them. Assumes nothing.
+-- The starred cases of document 01, in its order: a grid's as a plan and, where that is accepted, a store by its counters. Old cells, counters and outputs are
+-- odd on purpose: a refusal has to leave them. Assumes nothing.
 use Prim.Native.Nat.{ℕ}
 use mathlib.Core.Bool.{true, false}
 use mathlib.Core.List.{List, [], _∷_}
@@ -6,7 +7,7 @@ use lib.ListN.{replicate}
 use Rattle.rdis.specs.Block.{Block}
 use Rattle.grid_promises.specs.Calls.{block}
 use Rattle.pointer_promises.specs.Pointer.{entryOf}
-use Rattle.cases.specs.Lines.{Line, ones, Call, metadata, pointerRead, pointerWrite, gridWrite}
+use Rattle.cases.specs.Lines.{Line, ones, Call, metadata, pointerRead, pointerWrite, gridPlan, gridStore}
 
 -- a call, and the line that document 01 gives for it
 pub record Row : Type 0 where
@@ -37,14 +38,28 @@ G6 = block 3 3 (0 ∷ 0 ∷ 0 ∷ []) (3 ∷ 6 ∷ 4 ∷ []) (1 ∷ 2 ∷ 4 ∷ 
 abbrev pub G8 : Block
 G8 = block 2 2 (0 ∷ 0 ∷ []) (3 ∷ 2 ∷ []) (2 ∷ 0 ∷ [])
 
--- a write to a block of two rows, and how it ends where it is refused
-abbrev pub small : Block → ℕ → Call
-small b k = gridWrite b k (7 ∷ 8 ∷ []) (9 ∷ [])
+-- ---- plans and stores
 
-abbrev pub unmaskable : Line
-unmaskable = record { numbers = 7 ∷ 0 ∷ 0 ∷ []; buffers = (7 ∷ 8 ∷ []) ∷ (9 ∷ []) ∷ [] }
+-- of a block of two rows: a plan, and a store by one byte of counters
+abbrev pub planSmall : Block → ℕ → Call
+planSmall b k = gridPlan b k (9 ∷ [])
 
--- ---- the table. A grid's buffers are its cells, its packed counters, and the counters of rows and then columns
+abbrev pub storeSmall : Block → ℕ → ℕ → Call
+storeSmall b k byte = gridStore b k (byte ∷ []) (7 ∷ 8 ∷ [])
+
+-- an accepted plan: L, F, the packed counters, and the counters of rows and then columns
+abbrev pub planned : ℕ → ℕ → List ℕ → List ℕ → Line
+planned l f bytes counters = record { numbers = 0 ∷ l ∷ f ∷ []; buffers = bytes ∷ counters ∷ [] }
+
+-- an accepted store: L, F and the cells
+abbrev pub stores : ℕ → ℕ → List ℕ → Line
+stores l f cells = record { numbers = 0 ∷ l ∷ f ∷ []; buffers = cells ∷ [] }
+
+-- a refused one of either: the number, and the buffer as it was
+abbrev pub refused : ℕ → List ℕ → Line
+refused number before = record { numbers = number ∷ 0 ∷ 0 ∷ []; buffers = before ∷ [] }
+
+-- ---- the table
 
 abbrev pub table : List Row
 table =
@@ -69,26 +84,30 @@ table =
       expected = record { numbers = 4 ∷ 0 ∷ 0 ∷ []; buffers = old ∷ (0x00 ∷ 0x00 ∷ 0x40 ∷ 0x00 ∷ []) ∷ [] };
     }
     -- G1: no stuck cell
-    ∷ record { call = small G1 1; expected = record { numbers = 0 ∷ 0 ∷ 0 ∷ []; buffers = (1 ∷ 2 ∷ []) ∷ (0x00 ∷ []) ∷ (0 ∷ 0 ∷ 0 ∷ 0 ∷ []) ∷ [] } }
+    ∷ record { call = planSmall G1 1; expected = planned 0 0 (0x00 ∷ []) (0 ∷ 0 ∷ 0 ∷ 0 ∷ []) }
+    ∷ record { call = storeSmall G1 1 0x00; expected = stores 0 0 (1 ∷ 2 ∷ []) }
     -- G2: one cell, stuck at the other value
-    ∷ record { call = gridWrite G2 1 (7 ∷ []) (9 ∷ []); expected = record { numbers = 0 ∷ 1 ∷ 1 ∷ []; buffers = (0 ∷ []) ∷ (0x03 ∷ []) ∷ (1 ∷ 1 ∷ []) ∷ [] } }
+    ∷ record { call = gridPlan G2 1 (9 ∷ []); expected = planned 1 1 (0x03 ∷ []) (1 ∷ 1 ∷ []) }
+    ∷ record { call = gridStore G2 1 (0x03 ∷ []) (7 ∷ []); expected = stores 1 1 (0 ∷ []) }
+    -- by the counter of its row alone it reads wrong, and by that of its column
+    ∷ record { call = gridStore G2 1 (0x01 ∷ []) (7 ∷ []); expected = refused 13 (7 ∷ []) }
+    ∷ record { call = gridStore G2 1 (0x02 ∷ []) (7 ∷ []); expected = refused 13 (7 ∷ []) }
     -- G3: two levels
-    ∷ record { call = small G3 3; expected = record { numbers = 0 ∷ 2 ∷ 3 ∷ []; buffers = (1 ∷ 3 ∷ []) ∷ (0x96 ∷ []) ∷ (2 ∷ 1 ∷ 1 ∷ 2 ∷ []) ∷ [] } }
+    ∷ record { call = planSmall G3 3; expected = planned 2 3 (0x96 ∷ []) (2 ∷ 1 ∷ 1 ∷ 2 ∷ []) }
+    ∷ record { call = storeSmall G3 3 0x96; expected = stores 2 3 (1 ∷ 3 ∷ []) }
+    -- by counters that are all 0 two of its cells read wrong
+    ∷ record { call = storeSmall G3 3 0x00; expected = refused 13 (7 ∷ 8 ∷ []) }
     -- G4: one level is too few
-    ∷ record { call = small G3 1; expected = unmaskable }
+    ∷ record { call = planSmall G3 1; expected = refused 7 (9 ∷ []) }
     -- G5: a loop, for every K
-    ∷ record { call = small G5 1; expected = unmaskable }
-    ∷ record { call = small G5 2; expected = unmaskable }
-    ∷ record { call = small G5 3; expected = unmaskable }
+    ∷ record { call = planSmall G5 1; expected = refused 7 (9 ∷ []) }
+    ∷ record { call = planSmall G5 2; expected = refused 7 (9 ∷ []) }
+    ∷ record { call = planSmall G5 3; expected = refused 7 (9 ∷ []) }
     -- G6: three levels, and two are too few
-    ∷ record {
-      call = gridWrite G6 3 (7 ∷ 8 ∷ 9 ∷ []) (9 ∷ 9 ∷ []);
-      expected = record { numbers = 0 ∷ 3 ∷ 5 ∷ []; buffers = (1 ∷ 3 ∷ 7 ∷ []) ∷ (0x5E ∷ 0x0B ∷ []) ∷ (2 ∷ 3 ∷ 1 ∷ 1 ∷ 3 ∷ 2 ∷ []) ∷ [] };
-    }
-    ∷ record {
-      call = gridWrite G6 2 (7 ∷ 8 ∷ 9 ∷ []) (9 ∷ 9 ∷ []);
-      expected = record { numbers = 7 ∷ 0 ∷ 0 ∷ []; buffers = (7 ∷ 8 ∷ 9 ∷ []) ∷ (9 ∷ 9 ∷ []) ∷ [] };
-    }
+    ∷ record { call = gridPlan G6 3 (9 ∷ 9 ∷ []); expected = planned 3 5 (0x5E ∷ 0x0B ∷ []) (2 ∷ 3 ∷ 1 ∷ 1 ∷ 3 ∷ 2 ∷ []) }
+    ∷ record { call = gridStore G6 3 (0x5E ∷ 0x0B ∷ []) (7 ∷ 8 ∷ 9 ∷ []); expected = stores 3 5 (1 ∷ 3 ∷ 7 ∷ []) }
+    ∷ record { call = gridPlan G6 2 (9 ∷ 9 ∷ []); expected = refused 7 (9 ∷ 9 ∷ []) }
     -- G8: three alternating cells whose ends are right
-    ∷ record { call = small G8 1; expected = record { numbers = 0 ∷ 1 ∷ 3 ∷ []; buffers = (2 ∷ 0 ∷ []) ∷ (0x09 ∷ []) ∷ (1 ∷ 0 ∷ 0 ∷ 1 ∷ []) ∷ [] } }
+    ∷ record { call = planSmall G8 1; expected = planned 1 3 (0x09 ∷ []) (1 ∷ 0 ∷ 0 ∷ 1 ∷ []) }
+    ∷ record { call = storeSmall G8 1 0x09; expected = stores 1 3 (2 ∷ 0 ∷ []) }
     ∷ []

@@ -1,4 +1,4 @@
-// The four calls for programs in C and Rust, in the archive libernavluq.a. Each promises what the call behind it does; include/ernavluq.h declares them.
+// The five calls for programs in C and Rust, in the archive libernavluq.a. Each promises what the call behind it does; include/ernavluq.h declares them.
 // Their names have a prefix, because nothing keeps an exported name apart from those of the C library.
 ghost use Rattle.pointer_promises.specs.Promises as Pointer;
 ghost use Rattle.grid_promises.specs.Promises as Grid;
@@ -45,17 +45,32 @@ pub extern "C" fn ernavluq_grid_read(
 }
 
 #[no_mangle]
-pub extern "C" fn ernavluq_grid_write(
+pub extern "C" fn ernavluq_grid_plan(
     rows: usize,
     columns: usize,
     k: usize,
     data: &[u64],
     mask: &[u64],
     values: &[u64],
-    cells: &mut [u64],
     counters: &mut [u8],
-) -> grid_promises::WriteAnswer
-    ensures { λ r. ⌜ Grid.Write (block rows columns (now («data» .entry)) (now (mask .entry)) (now (values .entry))) k (now (cells .entry)) (now (counters .entry)) r (now (cells .exit)) (now (counters .exit)) ⌝ }
+) -> grid_promises::Answer
+    ensures { λ r. ⌜ Grid.Plan (block rows columns (now («data» .entry)) (now (mask .entry)) (now (values .entry))) k (now (counters .entry)) r (now (counters .exit)) ⌝ }
 {
-    grid::write(rows, columns, k, data, mask, values, cells, counters)
+    grid::plan(rows, columns, k, data, mask, values, counters)
+}
+
+#[no_mangle]
+pub extern "C" fn ernavluq_grid_store(
+    rows: usize,
+    columns: usize,
+    k: usize,
+    data: &[u64],
+    mask: &[u64],
+    values: &[u64],
+    counters: &[u8],
+    cells: &mut [u64],
+) -> grid_promises::Answer
+    ensures { λ r. ⌜ Grid.Store (block rows columns (now («data» .entry)) (now (mask .entry)) (now (values .entry))) k (now (counters .entry)) (now (cells .entry)) r (now (cells .exit)) ⌝ }
+{
+    grid::store(rows, columns, k, data, mask, values, counters, cells)
 }

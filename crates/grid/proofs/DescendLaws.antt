@@ -1,6 +1,6 @@
 -- Laws of the levels one after the other: what each way to return says of the levels from a subgrid on. Assumes nothing.
 use mathlib.Core.Path.{_≡_, refl, sym, ap, ap₂, subst, _∙_}
-use mathlib.Core.Bool.{Bool, true, false, not, _&&_, _||_}
+use mathlib.Core.Bool.{Bool, true, false, not, _||_}
 use mathlib.Core.List.{List}
 use Prim.Native.Nat.{ℕ, zero, suc, _+_, _-_, _^_, _≤_, _<_, min}
 use native.Mathlib.Omega.{arith}
@@ -14,12 +14,10 @@ use Rattle.bits.proofs.TestLaws.{clash, false-when}
 use Rattle.bits.proofs.BoundLaws.{sum-ext}
 use Rattle.bits.proofs.BitLaws.{word-lt}
 use Rattle.rdis.specs.Levels.{whole, taken, left, Outcome, masked, unmaskable, more, levels, plan}
-use Rattle.rdis.specs.Chains.{byRow, byColumn}
 use Rattle.rdis.proofs.LevelLaws.{levels-none, levels-stop, levels-next, left-rows}
-use Rattle.rdis.proofs.CounterLaws.{Counts as Tallied, levels-counted}
 use Rattle.grid.specs.declared.levels.Sub.{Sub}
 use Rattle.grid.specs.declared.levels.Taken.{Taken}
-use Rattle.grid_sets.specs.Sets.{times, crossings}
+use Rattle.grid_sets.specs.Sets.{times}
 use Rattle.grid.specs.Steps.{blockOf, subgrid, Follows, Planned}
 
 -- ---- one set more
@@ -31,37 +29,18 @@ times-more xs n x i h =
     (ap₂ _+_ (ap (λ y. num (has y i)) (getD-set-same xs n x 0 h))
     (sum-ext n (λ m. num (has (getD (set xs n x) m 0) i)) (λ m. num (has (getD xs m 0) i)) (λ m l. ap (λ y. num (has y i)) (getD-set-other xs n m x 0 (λ e. omega arith)))))
 
-crossings-more : (rs cs : List ℕ) (n x y i j : ℕ) → n < length rs → n < length cs
-    → crossings (set rs n x) (set cs n y) (n + 1) i j ≡ num (has x i && has y j) + crossings rs cs n i j
-unfolding crossings sum
-crossings-more rs cs n x y i j p q =
-    rw add-one
-    (ap₂ _+_ (ap₂ (λ a b. num (has a i && has b j)) (getD-set-same rs n x 0 p) (getD-set-same cs n y 0 q))
-    (sum-ext n (λ m. num (has (getD (set rs n x) m 0) i && has (getD (set cs n y) m 0) j)) (λ m. num (has (getD rs m 0) i && has (getD cs m 0) j))
-    (λ m l. ap₂ (λ a b. num (has a i && has b j)) (getD-set-other rs n m x 0 (λ e. omega arith)) (getD-set-other cs n m y 0 (λ e. omega arith)))))
-
--- lines that were not taken have counted nothing inside
-min-more : (a b : Bool) (r c : ℕ) → (a ≡ false → r ≡ 0) → (b ≡ false → c ≡ 0) → num (a && b) + min r c ≡ min (num a + r) (num b + c)
-min-more true true r c p q = omega arith
-min-more true false r c p q = omega (arith, q refl)
-min-more false b r c p q = omega (arith, p refl)
-
 -- ---- the levels inside, and one more
 
 abbrev deeper : Sub → Taken → Taken
 deeper t r = record { ended = r .ended; used = r .used + 1; rows = set (r .rows) (r .used) (t .rows); columns = set (r .columns) (r .used) (t .columns) }
 
-one-more : (n : ℕ) (d mask values : List ℕ) (w : Bool) (t : Sub) (r : Taken) (o : Outcome) → r .used < length (r .rows) → r .used < length (r .columns)
-    → Tallied (blockOf n d mask values) w (subgrid t) o → Follows r o → Follows (deeper t r) (more (subgrid t) o)
-one-more n d mask values w t r unmaskable p q h f = f
-one-more n d mask values w t r (masked l rc cc) p q h f = record {
+one-more : (t : Sub) (r : Taken) (o : Outcome) → r .used < length (r .rows) → r .used < length (r .columns) → Follows r o → Follows (deeper t r) (more (subgrid t) o)
+one-more t r unmaskable p q f = f
+one-more t r (masked l rc cc) p q f = record {
   ended = f .ended;
   used = omega (arith, f .used);
   rows = λ i. times-more (r .rows) (r .used) (t .rows) i p ∙ ap (λ m. num (has (t .rows) i) + m) (f .rows i);
   columns = λ j. times-more (r .columns) (r .used) (t .columns) j q ∙ ap (λ m. num (has (t .columns) j) + m) (f .columns j);
-  crossed = λ i j.
-      crossings-more (r .rows) (r .columns) (r .used) (t .rows) (t .columns) i j p q ∙ ap (λ m. num (has (t .rows) i && has (t .columns) j) + m) (f .crossed i j)
-      ∙ min-more (has (t .rows) i) (has (t .columns) j) (rc i) (cc j) (h .outside byRow i) (h .outside byColumn j);
 }
 
 -- ---- the ways to return
@@ -81,7 +60,7 @@ module _ (d mask values : List ℕ) (w : Bool) (s t : Sub) (e : (n : ℕ) → s 
   some-left n h z = left-rows (blockOf n d mask values) w (subgrid s) .1 (λ q. z (rows-taken n h ∙ q))
 
   planned-none : (k : ℕ) → t .rows ≡ 0 → Planned d mask values s w k (empty true)
-  unfolding times crossings sum
+  unfolding times sum
   planned-none k z = record {
     few = omega arith;
     rowSets = refl;
@@ -89,7 +68,7 @@ module _ (d mask values : List ℕ) (w : Bool) (s t : Sub) (e : (n : ℕ) → s 
     follows = λ n h.
         let b = blockOf n d mask values in
         let f = false-when (left b w (subgrid s)) (λ q. left-rows b w (subgrid s) .0 q (sym (rows-taken n h) ∙ z)) in
-        rw (levels-none b k w (subgrid s) f) (record { ended = refl; used = refl; rows = λ i. refl; columns = λ j. refl; crossed = λ i j. refl });
+        rw (levels-none b k w (subgrid s) f) (record { ended = refl; used = refl; rows = λ i. refl; columns = λ j. refl });
   }
 
   planned-stop : (k : ℕ) → (t .rows ≡ 0 → ⊥) → k ≡ 0 → Planned d mask values s w k (empty false)
@@ -123,8 +102,7 @@ module _ (d mask values : List ℕ) (w : Bool) (s t : Sub) (e : (n : ℕ) → s 
     follows = λ n h.
         let b = blockOf n d mask values in
         let o = levels b (k - 1) (not w) (subgrid t) in
-        rw (next n k h z y)
-        (one-more n d mask values (not w) t r o (omega (arith, p .few, p .rowSets)) (omega (arith, p .few, p .columnSets)) (levels-counted b (k - 1) (not w) (subgrid t)) (p .follows n (narrow n h)));
+        rw (next n k h z y) (one-more t r o (omega (arith, p .few, p .rowSets)) (omega (arith, p .few, p .columnSets)) (p .follows n (narrow n h)));
   }
 
 -- where it goes on, a wrong cell is left and a level is allowed

@@ -1,33 +1,39 @@
--- What the private steps of a write and a read say. Nobody who reads the promises needs this page. Assumes nothing.
-use Prim.Native.Nat.{ℕ, _+_, _^_, _<_, _≤_, min}
+-- What the private steps of a plan, a store and a read say. Nobody who reads the promises needs this page. Assumes nothing.
+use Prim.Native.Nat.{ℕ, _+_, _^_, _<_, _≤_}
 use mathlib.Core.Path.{_≡_}
-use mathlib.Core.Bool.{Bool, true, false}
+use mathlib.Core.Bool.{Bool, true, false, xor, _&&_}
 use mathlib.Core.List.{List}
 use lib.ListN.{length}
-use Rattle.rdis.specs.Block.{Block}
+use Rattle.bits.specs.Bits.{some, most}
+use Rattle.rdis.specs.Block.{Block, bit}
 use Rattle.rdis.specs.Levels.{Subgrid, Outcome, masked, unmaskable, levels}
-use Rattle.rdis.specs.Packing.{width, bytesFor}
-use Rattle.grid_sets.specs.Sets.{times, crossings}
+use Rattle.rdis.specs.Packing.{width, bytesFor, counter}
+use Rattle.grid_sets.specs.Sets.{times}
 use Rattle.grid_promises.specs.Calls.{block, inRange}
+use Rattle.grid_promises.specs.Promises.{Read}
 use Rattle.grid.specs.declared.levels.Sub.{Sub}
 use Rattle.grid.specs.declared.levels.Taken.{Taken}
+use Rattle.grid.specs.declared.shows.Shown.{Shown}
 
 -- the block of three slices of words, as one of n columns
 abbrev pub blockOf : ℕ → List ℕ → List ℕ → List ℕ → Block
 blockOf n d mask values = block (length d) n d mask values
 
 -- numbers in range, and buffers as long as they should be
-pub record ReadSized (n k : ℕ) (cells counters out : List ℕ) : Type 0 where
+pub record ShowSized (n k : ℕ) (cells counters out : List ℕ) : Type 0 where
   pub ranges : inRange (length cells) n k ≡ true
   pub sizes : length counters ≡ bytesFor (width k) (length cells + n)
   pub room : length out ≡ length cells
 
-pub record WriteSized (n k : ℕ) (d mask values cells counters : List ℕ) : Type 0 where
+pub record PlanSized (n k : ℕ) (d mask values counters : List ℕ) : Type 0 where
   pub ranges : inRange (length d) n k ≡ true
   pub masks : length mask ≡ length d
   pub stuckAt : length values ≡ length d
-  pub room : length cells ≡ length d
   pub sizes : length counters ≡ bytesFor (width k) (length d + n)
+
+pub record StoreSized (n k : ℕ) (d mask values counters cells : List ℕ) : Type 0 where
+  pub planned : PlanSized n k d mask values counters
+  pub room : length cells ≡ length d
 
 -- as many words of each, at most 64
 pub record Rows (d mask values : List ℕ) : Type 0 where
@@ -38,13 +44,12 @@ pub record Rows (d mask values : List ℕ) : Type 0 where
 abbrev pub subgrid : Sub → Subgrid
 subgrid s = record { rows = s .rows; columns = s .columns }
 
--- the sets that the levels took give the counters of an outcome, and where they cross the smaller of two counters
+-- the sets that the levels took give the counters of an outcome
 pub record Counts (p : Taken) (l : ℕ) (r c : ℕ → ℕ) : Type 0 where
   pub ended : p .ended ≡ true
   pub used : p .used ≡ l
   pub rows : (i : ℕ) → times (p .rows) (p .used) i ≡ r i
   pub columns : (j : ℕ) → times (p .columns) (p .used) j ≡ c j
-  pub crossed : (i j : ℕ) → crossings (p .rows) (p .columns) (p .used) i j ≡ min (r i) (c j)
 
 abbrev pub Follows : Taken → Outcome → Type 0
 Follows p (masked l r c) = Counts p l r c
@@ -56,3 +61,15 @@ pub record Planned (d mask values : List ℕ) (s : Sub) (w : Bool) (k : ℕ) (t 
   pub rowSets : length (t .rows) ≡ 8
   pub columnSets : length (t .columns) ≡ 8
   pub follows : (n : ℕ) → s .columns < 2 ^ n → Follows t (levels (blockOf n d mask values) k w (subgrid s))
+
+-- ---- a store
+
+-- what a read promises, and the greatest counter
+pub record Shows (m n k : ℕ) (cells counters out : List ℕ) (s : Shown) (after : List ℕ) : Type 0 where
+  pub reads : Read m n k cells counters out (record { number = s .number }) after
+  pub uncounted : (s .number ≡ 0 → ⊥) → s .levels ≡ 0
+  pub greatest : s .number ≡ 0 → s .levels ≡ most (m + n) (counter (width k) counters)
+
+-- some cell (i, j) is stuck at another bit than that of the words x
+unfoldable pub anyDiffers : List ℕ → List ℕ → List ℕ → Bool
+anyDiffers x mask values = some 64 (λ j. some (length x) (λ i. bit mask i j && xor (bit x i j) (bit values i j)))

@@ -1,16 +1,21 @@
 // Grid blocks: a grid of cells, one word a row, and a counter for each row and each column.
 mod levels;
+mod shows;
+mod stores;
 
+use grid_promises::Answer;
 use grid_promises::ReadAnswer;
-use grid_promises::WriteAnswer;
+use grid_sets::LINES;
 use refusals::ACCEPTED;
 use refusals::BIT_PAST_END;
+use refusals::MISREAD;
 use refusals::UNMASKABLE;
 ghost use mathlib.Core.Path.{_≡_};
+ghost use mathlib.Core.Bool.{false};
 ghost use lib.ListN.{length};
-ghost use Rattle.grid_promises.specs.Promises.{Read, Write};
-ghost use Rattle.grid_promises.specs.Calls.{block};
-ghost use Rattle.grid.specs.Steps.{ReadSized, WriteSized};
+ghost use Rattle.grid_promises.specs.Promises.{Read, Plan, Store};
+ghost use Rattle.grid_promises.specs.Calls.{block, planPast};
+ghost use Rattle.grid.specs.Steps.{PlanSized, StoreSized};
 
 // Reads a block into `out` by its counters, whoever made them.
 pub fn read(
@@ -23,85 +28,58 @@ pub fn read(
 ) -> ReadAnswer
     ensures { λ r. ⌜ Read rows columns k (now (cells .entry)) (now (counters .entry)) (now (out .entry)) r (now (out .exit)) ⌝ }
 {
-    let number = grid_checks::read_number(rows, columns, k, cells.len(), counters.len(), out.len());
-    if number != ACCEPTED {
-        return ReadAnswer { number };
-    }
-    ReadAnswer {
-        number: read_sized(columns, k, cells, counters, out),
-    }
+    let s = shows::show(rows, columns, k, cells, counters, out);
+    ReadAnswer { number: s.number }
 }
 
-// The read of numbers in range and buffers that are as long as they should be: its number.
-fn read_sized(columns: usize, k: usize, cells: &[u64], counters: &[u8], out: &mut [u64]) -> usize
-    requires { ⌜ ReadSized columns k (now cells) (now counters) (now out) ⌝ }
-    ensures { λ r. ⌜ Read (length (now (cells .entry))) columns k (now (cells .entry)) (now (counters .entry)) (now (out .entry)) (record { number = r }) (now (out .exit)) ⌝ }
-{
-    if !grid_checks::within(cells, columns) {
-        return BIT_PAST_END;
-    }
-    let c = grid_counters::unpack(k, cells.len(), columns, counters);
-    // An array in a field is lent by a variable.
-    let row_sets = c.rows;
-    let column_sets = c.columns;
-    // No counter is above K, so the first K pairs of sets say all of them.
-    if c.number == ACCEPTED {
-        grid_patterns::invert(cells, &row_sets, &column_sets, k, out);
-    }
-    c.number
-}
-
-fn refused(number: usize) -> WriteAnswer
+fn refused(number: usize) -> Answer
     ensures { λ r. ⌜ (r .number ≡ number) × (r .levels ≡ 0) × (r .faults ≡ 0) ⌝ }
 {
-    WriteAnswer {
+    Answer {
         number,
         levels: 0,
         faults: 0,
     }
 }
 
-// Works out levels and counters that mask every fault, and stores the data by them; or refuses and stores nothing.
-pub fn write(
+// Works out levels that mask every fault for the data, and fills the counters with how many of them took each line; or refuses. It needs no cells.
+pub fn plan(
     rows: usize,
     columns: usize,
     k: usize,
     data: &[u64],
     mask: &[u64],
     values: &[u64],
-    cells: &mut [u64],
     counters: &mut [u8],
-) -> WriteAnswer
-    ensures { λ r. ⌜ Write (block rows columns (now («data» .entry)) (now (mask .entry)) (now (values .entry))) k (now (cells .entry)) (now (counters .entry)) r (now (cells .exit)) (now (counters .exit)) ⌝ }
+) -> Answer
+    ensures { λ r. ⌜ Plan (block rows columns (now («data» .entry)) (now (mask .entry)) (now (values .entry))) k (now (counters .entry)) r (now (counters .exit)) ⌝ }
 {
-    let number = grid_checks::write_number(
+    let number = grid_checks::plan_number(
         rows,
         columns,
         k,
         data.len(),
         mask.len(),
         values.len(),
-        cells.len(),
         counters.len(),
     );
     if number != ACCEPTED {
         return refused(number);
     }
-    write_sized(columns, k, data, mask, values, cells, counters)
+    plan_sized(columns, k, data, mask, values, counters)
 }
 
-// The write of numbers in range and buffers that are as long as they should be.
-fn write_sized(
+// The plan of numbers in range and buffers that are as long as they should be.
+fn plan_sized(
     columns: usize,
     k: usize,
     data: &[u64],
     mask: &[u64],
     values: &[u64],
-    cells: &mut [u64],
     counters: &mut [u8],
-) -> WriteAnswer
-    requires { ⌜ WriteSized columns k (now «data») (now mask) (now values) (now cells) (now counters) ⌝ }
-    ensures { λ r. ⌜ Write (block (length (now («data» .entry))) columns (now («data» .entry)) (now (mask .entry)) (now (values .entry))) k (now (cells .entry)) (now (counters .entry)) r (now (cells .exit)) (now (counters .exit)) ⌝ }
+) -> Answer
+    requires { ⌜ PlanSized columns k (now «data») (now mask) (now values) (now counters) ⌝ }
+    ensures { λ r. ⌜ Plan (block (length (now («data» .entry))) columns (now («data» .entry)) (now (mask .entry)) (now (values .entry))) k (now (counters .entry)) r (now (counters .exit)) ⌝ }
 {
     if !grid_checks::all_within(data, mask, values, columns) {
         return refused(BIT_PAST_END);
@@ -113,8 +91,6 @@ fn write_sized(
     // An array in a field is passed by a variable.
     let taken_rows = t.rows;
     let taken_columns = t.columns;
-    // A stuck cell is wrong exactly where the levels invert it, so the inverted data has its stuck value there.
-    grid_patterns::invert(data, &taken_rows, &taken_columns, t.used, cells);
     grid_counters::pack(
         k,
         data.len(),
@@ -124,9 +100,100 @@ fn write_sized(
         taken_columns,
         counters,
     );
-    WriteAnswer {
+    Answer {
         number: ACCEPTED,
         levels: t.used,
+        faults: levels::stuck_cells(mask),
+    }
+}
+
+// Stores the data by counters, whoever made them; or refuses where a stuck cell would then read wrong, and stores nothing.
+pub fn store(
+    rows: usize,
+    columns: usize,
+    k: usize,
+    data: &[u64],
+    mask: &[u64],
+    values: &[u64],
+    counters: &[u8],
+    cells: &mut [u64],
+) -> Answer
+    ensures { λ r. ⌜ Store (block rows columns (now («data» .entry)) (now (mask .entry)) (now (values .entry))) k (now (counters .entry)) (now (cells .entry)) r (now (cells .exit)) ⌝ }
+{
+    let number = grid_checks::store_number(
+        rows,
+        columns,
+        k,
+        data.len(),
+        mask.len(),
+        values.len(),
+        counters.len(),
+        cells.len(),
+    );
+    if number != ACCEPTED {
+        return refused(number);
+    }
+    store_sized(columns, k, data, mask, values, counters, cells)
+}
+
+// The store of numbers in range and buffers that are as long as they should be.
+fn store_sized(
+    columns: usize,
+    k: usize,
+    data: &[u64],
+    mask: &[u64],
+    values: &[u64],
+    counters: &[u8],
+    cells: &mut [u64],
+) -> Answer
+    requires { ⌜ StoreSized columns k (now «data») (now mask) (now values) (now counters) (now cells) ⌝ }
+    ensures { λ r. ⌜ Store (block (length (now («data» .entry))) columns (now («data» .entry)) (now (mask .entry)) (now (values .entry))) k (now (counters .entry)) (now (cells .entry)) r (now (cells .exit)) ⌝ }
+{
+    if !grid_checks::all_within(data, mask, values, columns) {
+        return refused(BIT_PAST_END);
+    }
+    let n = data.len();
+    let mut apart = [0u64; LINES];
+    store_by(
+        columns,
+        k,
+        data,
+        mask,
+        values,
+        counters,
+        &mut apart[..n],
+        cells,
+    )
+}
+
+// The store of words within the columns. A cell holds the bit that a read would show if the cell held the data bit: so the data is read, apart from the cells,
+// since it is not known yet that they may be touched.
+fn store_by(
+    columns: usize,
+    k: usize,
+    data: &[u64],
+    mask: &[u64],
+    values: &[u64],
+    counters: &[u8],
+    apart: &mut [u64],
+    cells: &mut [u64],
+) -> Answer
+    requires { ⌜ StoreSized columns k (now «data») (now mask) (now values) (now counters) (now cells) ⌝ }
+    requires { ⌜ (planPast (block (length (now «data»)) columns (now «data») (now mask) (now values)) ≡ false) × (length (now apart) ≡ length (now «data»)) ⌝ }
+    ensures { λ r. ⌜ Store (block (length (now («data» .entry))) columns (now («data» .entry)) (now (mask .entry)) (now (values .entry))) k (now (counters .entry)) (now (cells .entry)) r (now (cells .exit)) ⌝ }
+{
+    let s = shows::show(data.len(), columns, k, data, counters, apart);
+    if s.number != ACCEPTED {
+        return refused(s.number);
+    }
+    if stores::misreads(apart, mask, values) {
+        return refused(MISREAD);
+    }
+    // Where no stuck cell reads wrong, the inverted data has the stuck values.
+    words::copy(apart, cells);
+    Answer {
+        number: ACCEPTED,
+        levels: s.levels,
         faults: levels::stuck_cells(mask),
     }
 }

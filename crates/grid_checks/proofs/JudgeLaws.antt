@@ -9,14 +9,14 @@ use native.Mathlib.Numerals.{add-one}
 use native.Mathlib.Omega.{arith}
 use borrow.Author.Tests.{le-leb, lt-leb}
 use lib.Bits.{bitOr, or-lt, or-add-and, and-le-l, and-le-r}
-use lib.Dec.{eqb, leb, ltb}
+use lib.Dec.{leb, ltb}
 use lib.ListN.{length, getD}
 use lib.Pow.{pow-pos, pow-mono}
 use Rattle.bits.specs.Bits.{some, Below}
 use Rattle.bits.proofs.TestLaws.{lt-or-le, ltb-not}
 use Rattle.bits.proofs.BoundLaws.{some-none}
 use Rattle.bits.proofs.BitLaws.{one-shl}
-use Rattle.grid_promises.specs.Calls.{inRange, sized, past}
+use Rattle.grid_promises.specs.Calls.{inRange, countersSized, past}
 use Rattle.grid_promises.proofs.RefusalLaws.{in-range}
 use Rattle.grid_counters.specs.Promises.{fit}
 use Rattle.grid_checks.specs.Numbers.{judged}
@@ -65,13 +65,13 @@ none-of-three false false c = refl
 
 -- ---- numbers and lengths
 
-module _ (m n k cells counters : ℕ) (others : Bool) where
-  pub out-of-range : inRange m n k ≡ false → 1 ≡ judged m n k cells counters others
+module _ (m n k counters : ℕ) (words : Bool) where
+  pub out-of-range : inRange m n k ≡ false → 1 ≡ judged m n k counters words
   unfolding judged
   out-of-range h = rw h
 
-  pub in-range-by : inRange m n k ≡ true → cond (others && (eqb cells m && fit k (m + n) counters)) 0 2 ≡ judged m n k cells counters others
-  unfolding judged sized fit
+  pub in-range-by : inRange m n k ≡ true → cond (words && fit k (m + n) counters) 0 2 ≡ judged m n k counters words
+  unfolding judged countersSized fit
   in-range-by h =
       let r = in-range m n k .0 h in
       rw (h, le-leb (m + n) 128 (omega (arith, r .rows .1, r .columns .1)))

@@ -1,15 +1,18 @@
--- The refusals of numbers and lengths, for a read and a write. m are the rows, n the columns, k is K, and the others are lengths. Assumes nothing.
+-- The refusals of numbers and lengths, for a read, a plan and a store. m are the rows, n the columns, k is K, and the others are lengths. Assumes nothing.
 use Prim.Native.Nat.{ℕ}
 use mathlib.Core.Bool.{Bool, not, cond, _&&_}
 use lib.Dec.{eqb}
-use Rattle.grid_promises.specs.Calls.{inRange, sized}
+use Rattle.grid_promises.specs.Calls.{inRange, countersSized}
 
--- 1, 2 or else 0, where a test tells whether the buffers beside cells and counters have as many words as there are rows
-unfoldable pub judged : ℕ → ℕ → ℕ → ℕ → ℕ → Bool → ℕ
-judged m n k cells counters others = cond (not (inRange m n k)) 1 (cond (others && sized m n k cells counters) 0 2)
+-- 1, 2 or else 0, where a test tells whether every buffer of words has as many as there are rows
+unfoldable pub judged : ℕ → ℕ → ℕ → ℕ → Bool → ℕ
+judged m n k counters words = cond (not (inRange m n k)) 1 (cond (words && countersSized m n k counters) 0 2)
 
 abbrev pub readJudged : ℕ → ℕ → ℕ → ℕ → ℕ → ℕ → ℕ
-readJudged m n k cells counters out = judged m n k cells counters (eqb out m)
+readJudged m n k cells counters out = judged m n k counters (eqb cells m && eqb out m)
 
-abbrev pub writeJudged : ℕ → ℕ → ℕ → ℕ → ℕ → ℕ → ℕ → ℕ → ℕ
-writeJudged m n k d mask values cells counters = judged m n k cells counters (eqb d m && (eqb mask m && eqb values m))
+abbrev pub planJudged : ℕ → ℕ → ℕ → ℕ → ℕ → ℕ → ℕ → ℕ
+planJudged m n k d mask values counters = judged m n k counters (eqb d m && (eqb mask m && eqb values m))
+
+abbrev pub storeJudged : ℕ → ℕ → ℕ → ℕ → ℕ → ℕ → ℕ → ℕ → ℕ
+storeJudged m n k d mask values counters cells = judged m n k counters ((eqb d m && (eqb mask m && eqb values m)) && eqb cells m)

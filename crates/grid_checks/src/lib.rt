@@ -8,7 +8,7 @@ ghost use mathlib.Core.Bool.{not, _&&_, _||_};
 ghost use Prim.Native.Nat.{ℕ, _^_};
 ghost use lib.Dec.{leb};
 ghost use Rattle.grid_promises.specs.Calls.{between, inRange, past};
-ghost use Rattle.grid_checks.specs.Numbers.{judged, readJudged, writeJudged};
+ghost use Rattle.grid_checks.specs.Numbers.{judged, readJudged, planJudged, storeJudged};
 
 // The largest K.
 const MOST_LEVELS: usize = 3;
@@ -26,21 +26,14 @@ fn in_range(rows: usize, columns: usize, k: usize) -> bool
     is_between(1, LINES, rows) & (is_between(1, LINES, columns) & is_between(1, MOST_LEVELS, k))
 }
 
-// The refusal of numbers and lengths, 1 or 2, or else 0. `others` says whether the buffers beside the cells and the counters have as many words as there are rows.
-fn number(
-    rows: usize,
-    columns: usize,
-    k: usize,
-    cells: usize,
-    counters: usize,
-    others: bool,
-) -> usize
-    ensures { λ r. ⌜ r ≡ judged rows columns k cells counters others ⌝ }
+// The refusal of numbers and lengths, 1 or 2, or else 0. `words` says whether every buffer of words has as many as there are rows.
+fn number(rows: usize, columns: usize, k: usize, counters: usize, words: bool) -> usize
+    ensures { λ r. ⌜ r ≡ judged rows columns k counters words ⌝ }
 {
     if !in_range(rows, columns, k) {
         return OUT_OF_RANGE;
     }
-    if others & ((cells == rows) & grid_counters::fits(k, rows + columns, counters)) {
+    if words & grid_counters::fits(k, rows + columns, counters) {
         ACCEPTED
     } else {
         WRONG_LENGTH
@@ -58,24 +51,40 @@ pub fn read_number(
 ) -> usize
     ensures { λ r. ⌜ r ≡ readJudged rows columns k cells counters out ⌝ }
 {
-    number(rows, columns, k, cells, counters, out == rows)
+    number(rows, columns, k, counters, (cells == rows) & (out == rows))
 }
 
-// The same for a write.
-pub fn write_number(
+// The same for a plan.
+pub fn plan_number(
     rows: usize,
     columns: usize,
     k: usize,
     data: usize,
     mask: usize,
     values: usize,
-    cells: usize,
     counters: usize,
 ) -> usize
-    ensures { λ r. ⌜ r ≡ writeJudged rows columns k «data» mask values cells counters ⌝ }
+    ensures { λ r. ⌜ r ≡ planJudged rows columns k «data» mask values counters ⌝ }
 {
-    let others = (data == rows) & ((mask == rows) & (values == rows));
-    number(rows, columns, k, cells, counters, others)
+    let words = (data == rows) & ((mask == rows) & (values == rows));
+    number(rows, columns, k, counters, words)
+}
+
+// The same for a store.
+pub fn store_number(
+    rows: usize,
+    columns: usize,
+    k: usize,
+    data: usize,
+    mask: usize,
+    values: usize,
+    counters: usize,
+    cells: usize,
+) -> usize
+    ensures { λ r. ⌜ r ≡ storeJudged rows columns k «data» mask values counters cells ⌝ }
+{
+    let words = (data == rows) & ((mask == rows) & (values == rows));
+    number(rows, columns, k, counters, words & (cells == rows))
 }
 
 // The OR of all words: it has a bit past a column exactly if a word has.

@@ -8,8 +8,7 @@ use native.Mathlib.Numerals.{add-one}
 use native.Mathlib.Omega.{arith}
 use lib.Bits.{bitAnd, and-le-r}
 use lib.Dec.{eqb}
-use lib.ListN.{length, getD, take, set}
-use lib.Seq.{take-suc, take-suc-set, take-all}
+use lib.ListN.{length, getD}
 use Rattle.bits.specs.Bits.{num, sum, has, word, words, Below}
 use Rattle.bits.proofs.TestLaws.{xor-true, xor-false, xor-assoc}
 use Rattle.bits.proofs.BitLaws.{has-and}
@@ -18,14 +17,6 @@ use Rattle.words.proofs.LowBitsLaws.{low-lt, low-has}
 use Rattle.rdis.specs.Block.{bit}
 use Rattle.grid_sets.specs.Sets.{crossings, odd}
 use Rattle.grid_patterns.specs.Promises.{invertedBy}
-
--- ---- a copy, which no pair of sets has changed
-
-pub copy-more : (i : ℕ) (from into : List ℕ) → i < length from → length into ≡ length from → take i into ≡ take i from → take (i + 1) (set into i (getD from i 0)) ≡ take (i + 1) from
-copy-more i from into l s h = rw (add-one, take-suc-set into i (getD from i 0) (omega arith), take-suc from i 0 l, h)
-
-pub copy-done : (i : ℕ) (from into : List ℕ) → i ≡ length from → length into ≡ length from → take i into ≡ take i from → into ≡ from
-copy-done i from into e s h = sym (take-all i into (omega arith)) ∙ h ∙ take-all i from (omega arith)
 
 pub none-inverted : (rows columns from : List ℕ) → Below (2 ^ 64) from → from ≡ words (length from) 64 (invertedBy rows columns 0 from)
 unfolding invertedBy odd crossings sum bit

@@ -22,24 +22,12 @@ fn flip(into: &mut [u64], rows: u64, columns: u64)
     }
 }
 
-// Copies the words.
-fn copy(from: &[u64], into: &mut [u64])
-    requires { ⌜ length (now into) ≡ length (now from) ⌝ }
-    ensures { λ _. ⌜ now (into .exit) ≡ now (from .entry) ⌝ }
-{
-    let mut i = 0;
-    while i < from.len() {
-        into[i] = from[i];
-        i += 1;
-    }
-}
-
 // Copies the words, each inverted by its row's pattern: pair of sets by pair of sets.
 fn fill(from: &[u64], rows: &[u64; LEVELS], columns: &[u64; LEVELS], used: usize, into: &mut [u64])
     requires { ⌜ (used ≤ 8) × (length (now from) ≤ 64) × (length (now into) ≡ length (now from)) ⌝ }
     ensures { λ _. ⌜ now (into .exit) ≡ words (length (now (from .entry))) 64 (invertedBy (now (rows .entry)) (now (columns .entry)) used (now (from .entry))) ⌝ }
 {
-    copy(from, into);
+    words::copy(from, into);
     let inside = words::low_bits(from.len());
     let mut m = 0;
     while m < used {

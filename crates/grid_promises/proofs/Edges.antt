@@ -6,18 +6,22 @@ use mathlib.Core.List.{List, [], _∷_}
 use Rattle.bits.specs.Bits.{some, list, has, word, number}
 use Rattle.rdis.specs.Block.{bit, differs, faulty}
 use Rattle.rdis.specs.Levels.{whole, takes, taken, left, levels, plan}
+use Rattle.rdis.specs.Cells.{flips, misreads}
 use Rattle.rdis.specs.Packing.{width, bytesFor, counter, spareClear, above}
-use Rattle.grid_promises.specs.Calls.{inRange, sized, past, readNumber, block, writeNumber}
+use Rattle.grid_promises.specs.Calls.{inRange, countersSized, past, readNumber, block, planNumber, storeNumber}
 
 abbrev zeros : ℕ → List ℕ
 zeros n = list n (λ _. 0)
 
--- a read and a write of m rows and n columns, all 0
+-- a read, a plan and a store of m rows and n columns, all 0
 abbrev plainRead : ℕ → ℕ → ℕ → ℕ
 plainRead m n k = readNumber m n k (zeros m) (zeros (bytesFor (width k) (m + n))) m
 
-abbrev plainWrite : ℕ → ℕ → ℕ → ℕ
-plainWrite m n k = writeNumber (block m n (zeros m) (zeros m) (zeros m)) k m (bytesFor (width k) (m + n))
+abbrev plainPlan : ℕ → ℕ → ℕ → ℕ
+plainPlan m n k = planNumber (block m n (zeros m) (zeros m) (zeros m)) k (bytesFor (width k) (m + n))
+
+abbrev plainStore : ℕ → ℕ → ℕ → ℕ
+plainStore m n k = storeNumber (block m n (zeros m) (zeros m) (zeros m)) k (zeros (bytesFor (width k) (m + n))) m
 
 -- rows, columns and K, each one below its range, at its first, at its last and one above
 abbrev around : (ℕ → ℕ → ℕ → ℕ) → List (List ℕ)
@@ -26,17 +30,20 @@ around f = (f 0 1 1 ∷ f 1 1 1 ∷ f 64 1 1 ∷ f 65 1 1 ∷ []) ∷ (f 1 0 1 �
 abbrev edges : List (List ℕ)
 edges = (1 ∷ 0 ∷ 0 ∷ 1 ∷ []) ∷ (1 ∷ 0 ∷ 0 ∷ 1 ∷ []) ∷ (1 ∷ 0 ∷ 0 ∷ 1 ∷ []) ∷ []
 
-pub ranges : (around plainRead ≡ edges) × (around plainWrite ≡ edges)
-unfolding readNumber writeNumber inRange sized past above list some width bytesFor counter spareClear number plan levels taken left takes whole faulty differs bit has word xor
-ranges = (refl, refl)
+pub ranges : (around plainRead ≡ edges) × (around plainPlan ≡ edges) × (around plainStore ≡ edges)
+unfolding readNumber planNumber storeNumber inRange countersSized past above list some width bytesFor counter spareClear number plan levels taken left takes whole faulty differs bit has word xor misreads flips
+ranges = (refl, refl, refl)
 
 -- ---- 2 by 2
 
 abbrev readIn : ℕ → List ℕ → List ℕ → ℕ → ℕ
 readIn k cells counters out = readNumber 2 2 k cells counters out
 
-abbrev writeIn : ℕ → List ℕ → List ℕ → List ℕ → ℕ → ℕ → ℕ
-writeIn k d mask values cells counters = writeNumber (block 2 2 d mask values) k cells counters
+abbrev planIn : ℕ → List ℕ → List ℕ → List ℕ → ℕ → ℕ
+planIn k d mask values counters = planNumber (block 2 2 d mask values) k counters
+
+abbrev storeIn : ℕ → List ℕ → List ℕ → List ℕ → List ℕ → ℕ → ℕ
+storeIn k d mask values counters cells = storeNumber (block 2 2 d mask values) k counters cells
 
 -- a buffer one short and one long; the last column's bit and the next; the last counter's bit, the next, and the last of the byte; a counter of K and of K + 1,
 -- of a column and of a row; 1 before 2 before 3 before 4
@@ -48,22 +55,74 @@ pub reads :
     ∷ (readIn 4 (4 ∷ 0 ∷ []) (0xC0 ∷ []) 3 ∷ readIn 2 (4 ∷ 0 ∷ []) (0xC0 ∷ []) 3 ∷ readIn 2 (4 ∷ 0 ∷ []) (0xC0 ∷ []) 2 ∷ [])
     ∷ []
     ≡ (2 ∷ 2 ∷ 2 ∷ 2 ∷ 2 ∷ 2 ∷ []) ∷ (0 ∷ 3 ∷ 3 ∷ []) ∷ (0 ∷ 3 ∷ 3 ∷ []) ∷ (0 ∷ 4 ∷ 4 ∷ 0 ∷ []) ∷ (1 ∷ 2 ∷ 3 ∷ []) ∷ []
-unfolding readNumber inRange sized past above list some width bytesFor counter spareClear number
+unfolding readNumber inRange countersSized past above list some width bytesFor counter spareClear number
 reads = refl
 
 -- a buffer one short and one long; the last column's bit and the next, in each word that is read; a ring of right and wrong cells; 1 before 2 before 3 before 7
-pub writes :
-    (writeIn 1 (zeros 1) (zeros 2) (zeros 2) 2 1 ∷ writeIn 1 (zeros 3) (zeros 2) (zeros 2) 2 1 ∷ writeIn 1 (zeros 2) (zeros 1) (zeros 2) 2 1 ∷ writeIn 1 (zeros 2) (zeros 3) (zeros 2) 2 1 ∷ [])
-    ∷ (writeIn 1 (zeros 2) (zeros 2) (zeros 1) 2 1 ∷ writeIn 1 (zeros 2) (zeros 2) (zeros 3) 2 1 ∷ [])
-    ∷ (writeIn 1 (zeros 2) (zeros 2) (zeros 2) 1 1 ∷ writeIn 1 (zeros 2) (zeros 2) (zeros 2) 3 1 ∷ writeIn 1 (zeros 2) (zeros 2) (zeros 2) 2 0 ∷ writeIn 1 (zeros 2) (zeros 2) (zeros 2) 2 2 ∷ writeIn 1 (zeros 2) (zeros 2) (zeros 2) 2 1 ∷ [])
-    ∷ (writeIn 1 (2 ∷ 0 ∷ []) (zeros 2) (2 ∷ 0 ∷ []) 2 1 ∷ writeIn 1 (4 ∷ 0 ∷ []) (zeros 2) (zeros 2) 2 1 ∷ writeIn 1 (zeros 2) (0 ∷ 4 ∷ []) (zeros 2) 2 1 ∷ writeIn 1 (zeros 2) (zeros 2) (4 ∷ 0 ∷ []) 2 1 ∷ [])
-    ∷ (writeIn 1 (zeros 2) (3 ∷ 3 ∷ []) (1 ∷ 2 ∷ []) 2 1 ∷ writeIn 3 (zeros 2) (3 ∷ 3 ∷ []) (1 ∷ 2 ∷ []) 2 1 ∷ writeIn 1 (zeros 2) (3 ∷ 3 ∷ []) (5 ∷ 2 ∷ []) 2 1 ∷ writeIn 1 (zeros 2) (3 ∷ 3 ∷ []) (5 ∷ 2 ∷ []) 1 1 ∷ writeIn 0 (zeros 2) (3 ∷ 3 ∷ []) (5 ∷ 2 ∷ []) 1 1 ∷ [])
+pub plans :
+    (planIn 1 (zeros 1) (zeros 2) (zeros 2) 1 ∷ planIn 1 (zeros 3) (zeros 2) (zeros 2) 1 ∷ planIn 1 (zeros 2) (zeros 1) (zeros 2) 1 ∷ planIn 1 (zeros 2) (zeros 3) (zeros 2) 1 ∷ [])
+    ∷ (planIn 1 (zeros 2) (zeros 2) (zeros 1) 1 ∷ planIn 1 (zeros 2) (zeros 2) (zeros 3) 1 ∷ planIn 1 (zeros 2) (zeros 2) (zeros 2) 0 ∷ planIn 1 (zeros 2) (zeros 2) (zeros 2) 2 ∷ planIn 1 (zeros 2) (zeros 2) (zeros 2) 1 ∷ [])
+    ∷ (planIn 1 (2 ∷ 0 ∷ []) (zeros 2) (2 ∷ 0 ∷ []) 1 ∷ planIn 1 (4 ∷ 0 ∷ []) (zeros 2) (zeros 2) 1 ∷ planIn 1 (zeros 2) (0 ∷ 4 ∷ []) (zeros 2) 1 ∷ planIn 1 (zeros 2) (zeros 2) (4 ∷ 0 ∷ []) 1 ∷ [])
+    ∷ (planIn 1 (zeros 2) (3 ∷ 3 ∷ []) (1 ∷ 2 ∷ []) 1 ∷ planIn 3 (zeros 2) (3 ∷ 3 ∷ []) (1 ∷ 2 ∷ []) 1 ∷ planIn 1 (zeros 2) (3 ∷ 3 ∷ []) (5 ∷ 2 ∷ []) 1 ∷ planIn 1 (zeros 2) (3 ∷ 3 ∷ []) (5 ∷ 2 ∷ []) 2 ∷ planIn 0 (zeros 2) (3 ∷ 3 ∷ []) (5 ∷ 2 ∷ []) 2 ∷ [])
     ∷ []
-    ≡ (2 ∷ 2 ∷ 2 ∷ 2 ∷ []) ∷ (2 ∷ 2 ∷ []) ∷ (2 ∷ 2 ∷ 2 ∷ 2 ∷ 0 ∷ []) ∷ (0 ∷ 3 ∷ 3 ∷ 3 ∷ []) ∷ (7 ∷ 7 ∷ 3 ∷ 2 ∷ 1 ∷ []) ∷ []
-unfolding writeNumber inRange sized past list some width bytesFor plan levels taken left takes whole faulty differs bit has word xor
-writes = refl
+    ≡ (2 ∷ 2 ∷ 2 ∷ 2 ∷ []) ∷ (2 ∷ 2 ∷ 2 ∷ 2 ∷ 0 ∷ []) ∷ (0 ∷ 3 ∷ 3 ∷ 3 ∷ []) ∷ (7 ∷ 7 ∷ 3 ∷ 2 ∷ 1 ∷ []) ∷ []
+unfolding planNumber inRange countersSized past list some width bytesFor plan levels taken left takes whole faulty differs bit has word xor
+plans = refl
+
+-- a buffer one short and one long
+pub store-lengths :
+    (storeIn 1 (zeros 1) (zeros 2) (zeros 2) (0 ∷ []) 2 ∷ storeIn 1 (zeros 3) (zeros 2) (zeros 2) (0 ∷ []) 2 ∷ storeIn 1 (zeros 2) (zeros 1) (zeros 2) (0 ∷ []) 2 ∷ storeIn 1 (zeros 2) (zeros 3) (zeros 2) (0 ∷ []) 2 ∷ [])
+    ∷ (storeIn 1 (zeros 2) (zeros 2) (zeros 1) (0 ∷ []) 2 ∷ storeIn 1 (zeros 2) (zeros 2) (zeros 3) (0 ∷ []) 2 ∷ storeIn 1 (zeros 2) (zeros 2) (zeros 2) [] 2 ∷ storeIn 1 (zeros 2) (zeros 2) (zeros 2) (zeros 2) 2 ∷ [])
+    ∷ (storeIn 1 (zeros 2) (zeros 2) (zeros 2) (0 ∷ []) 1 ∷ storeIn 1 (zeros 2) (zeros 2) (zeros 2) (0 ∷ []) 3 ∷ storeIn 1 (zeros 2) (zeros 2) (zeros 2) (0 ∷ []) 2 ∷ [])
+    ∷ []
+    ≡ (2 ∷ 2 ∷ 2 ∷ 2 ∷ []) ∷ (2 ∷ 2 ∷ 2 ∷ 2 ∷ []) ∷ (2 ∷ 2 ∷ 0 ∷ []) ∷ []
+unfolding storeNumber inRange countersSized past above list some width bytesFor counter spareClear number bit has xor misreads flips
+store-lengths = refl
+
+-- the last column's bit and the next, in each word that is read; the last counter's bit, the next, and the last of the byte; a counter of K and of K + 1, of a
+-- column and of a row; a cell stuck at 1 for the data 0, by counters that invert it, by the row's alone and by the column's alone; one stuck at 0, the same; a
+-- sound one; 1 before 2 before 3 before 4 before 13
+pub stores :
+    (storeIn 1 (2 ∷ 0 ∷ []) (zeros 2) (2 ∷ 0 ∷ []) (0 ∷ []) 2 ∷ storeIn 1 (4 ∷ 0 ∷ []) (zeros 2) (zeros 2) (0 ∷ []) 2 ∷ storeIn 1 (zeros 2) (0 ∷ 4 ∷ []) (zeros 2) (0 ∷ []) 2 ∷ storeIn 1 (zeros 2) (zeros 2) (4 ∷ 0 ∷ []) (0 ∷ []) 2 ∷ [])
+    ∷ (storeIn 1 (zeros 2) (zeros 2) (zeros 2) (0x08 ∷ []) 2 ∷ storeIn 1 (zeros 2) (zeros 2) (zeros 2) (0x10 ∷ []) 2 ∷ storeIn 1 (zeros 2) (zeros 2) (zeros 2) (0x80 ∷ []) 2 ∷ [])
+    ∷ (storeIn 2 (zeros 2) (zeros 2) (zeros 2) (0x80 ∷ []) 2 ∷ storeIn 2 (zeros 2) (zeros 2) (zeros 2) (0xC0 ∷ []) 2 ∷ storeIn 2 (zeros 2) (zeros 2) (zeros 2) (0x03 ∷ []) 2 ∷ storeIn 3 (zeros 2) (zeros 2) (zeros 2) (0xC0 ∷ []) 2 ∷ [])
+    ∷ (storeIn 1 (zeros 2) (2 ∷ 0 ∷ []) (2 ∷ 0 ∷ []) (0x09 ∷ []) 2 ∷ storeIn 1 (zeros 2) (2 ∷ 0 ∷ []) (2 ∷ 0 ∷ []) (0x01 ∷ []) 2 ∷ storeIn 1 (zeros 2) (2 ∷ 0 ∷ []) (2 ∷ 0 ∷ []) (0x08 ∷ []) 2 ∷ [])
+    ∷ (storeIn 1 (zeros 2) (2 ∷ 0 ∷ []) (zeros 2) (0x09 ∷ []) 2 ∷ storeIn 1 (zeros 2) (2 ∷ 0 ∷ []) (zeros 2) (0x01 ∷ []) 2 ∷ storeIn 1 (zeros 2) (zeros 2) (2 ∷ 0 ∷ []) (0x0F ∷ []) 2 ∷ [])
+    ∷ (storeIn 4 (zeros 2) (2 ∷ 0 ∷ []) (6 ∷ 0 ∷ []) (0xC0 ∷ []) 3 ∷ storeIn 2 (zeros 2) (2 ∷ 0 ∷ []) (6 ∷ 0 ∷ []) (0xC0 ∷ []) 3 ∷ storeIn 2 (zeros 2) (2 ∷ 0 ∷ []) (6 ∷ 0 ∷ []) (0xC0 ∷ []) 2 ∷ storeIn 2 (zeros 2) (2 ∷ 0 ∷ []) (2 ∷ 0 ∷ []) (0xC0 ∷ []) 2 ∷ storeIn 2 (zeros 2) (2 ∷ 0 ∷ []) (2 ∷ 0 ∷ []) (0x80 ∷ []) 2 ∷ [])
+    ∷ []
+    ≡ (0 ∷ 3 ∷ 3 ∷ 3 ∷ []) ∷ (0 ∷ 3 ∷ 3 ∷ []) ∷ (0 ∷ 4 ∷ 4 ∷ 0 ∷ []) ∷ (0 ∷ 13 ∷ 13 ∷ []) ∷ (13 ∷ 0 ∷ 0 ∷ []) ∷ (1 ∷ 2 ∷ 3 ∷ 4 ∷ 13 ∷ []) ∷ []
+unfolding storeNumber inRange countersSized past above list some width bytesFor counter spareClear number bit has xor misreads flips
+stores = refl
 
 -- 63 and 64 columns with bit 63 set; 64 rows and 64 columns at K = 3
 pub widest : (readNumber 1 63 1 (2 ^ 63 ∷ []) (zeros 8) 1 ≡ 3) × (readNumber 1 64 1 (2 ^ 63 ∷ []) (zeros 9) 1 ≡ 0) × (readNumber 64 64 3 (zeros 64) (zeros 32) 64 ≡ 0)
-unfolding readNumber inRange sized past above list some width bytesFor counter spareClear number
+unfolding readNumber inRange countersSized past above list some width bytesFor counter spareClear number
 widest = (refl, refl, refl)
+
+-- the highest bit of a word of two columns, in each word that is read
+pub highest :
+    readIn 1 (2 ^ 63 ∷ 0 ∷ []) (0 ∷ []) 2
+    ∷ planIn 1 (0 ∷ 2 ^ 63 ∷ []) (zeros 2) (zeros 2) 1 ∷ planIn 1 (zeros 2) (0 ∷ 2 ^ 63 ∷ []) (zeros 2) 1 ∷ planIn 1 (zeros 2) (zeros 2) (0 ∷ 2 ^ 63 ∷ []) 1
+    ∷ storeIn 1 (0 ∷ 2 ^ 63 ∷ []) (zeros 2) (zeros 2) (0 ∷ []) 2 ∷ storeIn 1 (zeros 2) (0 ∷ 2 ^ 63 ∷ []) (zeros 2) (0 ∷ []) 2 ∷ storeIn 1 (zeros 2) (zeros 2) (0 ∷ 2 ^ 63 ∷ []) (0 ∷ []) 2
+    ∷ []
+    ≡ 3 ∷ 3 ∷ 3 ∷ 3 ∷ 3 ∷ 3 ∷ 3 ∷ []
+unfolding readNumber planNumber storeNumber inRange countersSized past list some width bytesFor
+highest = refl
+
+-- a read and a store of 3 by 2 at K = 3, and a plan: ten bits of counters in two bytes
+abbrev oblongRead : List ℕ → ℕ
+oblongRead counters = readNumber 3 2 3 (zeros 3) counters 3
+
+abbrev oblongStore : List ℕ → ℕ
+oblongStore counters = storeNumber (block 3 2 (zeros 3) (zeros 3) (zeros 3)) 3 counters 3
+
+abbrev oblongPlan : ℕ → ℕ
+oblongPlan counters = planNumber (block 3 2 (zeros 3) (zeros 3) (zeros 3)) 3 counters
+
+-- the last counter's bit, the next, and the last of the second byte; one byte and three
+abbrev oblong : (List ℕ → ℕ) → List ℕ
+oblong f = f (0 ∷ 0x02 ∷ []) ∷ f (0 ∷ 0x04 ∷ []) ∷ f (0 ∷ 0x80 ∷ []) ∷ f (0 ∷ []) ∷ f (0 ∷ 0 ∷ 0 ∷ []) ∷ []
+
+pub oblongs : (oblong oblongRead ≡ 0 ∷ 3 ∷ 3 ∷ 2 ∷ 2 ∷ []) × (oblong oblongStore ≡ 0 ∷ 3 ∷ 3 ∷ 2 ∷ 2 ∷ []) × (oblongPlan 1 ∷ oblongPlan 2 ∷ oblongPlan 3 ∷ [] ≡ 2 ∷ 0 ∷ 2 ∷ [])
+unfolding readNumber planNumber storeNumber inRange countersSized past above list some width bytesFor counter spareClear number plan levels taken left takes whole faulty differs bit has word xor misreads flips
+oblongs = (refl, refl, refl)

@@ -1,4 +1,9 @@
-pub mod Demands
+pub mod ReadDemands
+pub mod PlanDemands
+pub mod StoreDemands
 pub mod Edges
+pub mod Examples
 pub mod OneAnswer
+pub mod ByDemands
+pub mod PlanThenStore
 pub mod RefusalLaws

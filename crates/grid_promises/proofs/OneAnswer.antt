@@ -1,19 +1,21 @@
--- No second answer meets a promise; and what does not count: an output and old buffers but for their lengths, and value bits at sound cells. Assumes nothing.
+-- No second answer is exact; and what does not count: an output and old buffers but for their lengths, and value bits at sound cells. Assumes nothing.
 use Prim.Native.Nat.{ℕ, _<_}
-use mathlib.Core.Path.{_≡_, refl, sym, ap, ap₂, _∙_}
+use mathlib.Core.Path.{_≡_, refl, sym, ap, _∙_}
 use mathlib.Core.List.{List}
 use mathlib.Core.Logic.{⊎-elim}
 use native.Mathlib.Omega.{arith}
 use lib.ListN.{length}
 use Rattle.bits.proofs.TestLaws.{same-test, lt-or-le}
 use Rattle.rdis.specs.Block.{Block}
-use Rattle.rdis.specs.Cells.{stored}
-use Rattle.rdis.specs.Packing.{width, inOrder, packed}
+use Rattle.rdis.specs.Packing.{width, inOrder, packed, rowCounter, columnCounter}
 use Rattle.rdis.specs.Theorems.{withValues, SameWrite}
 use Rattle.rdis.proofs.SoundLaws.{sound-ignored}
-use Rattle.grid_promises.specs.Calls.{past, readNumber, writeNumber, used, rowsOf, columnsOf}
-use Rattle.grid_promises.specs.Promises.{WriteExactly, OneRead, OutputMeasured, OneWrite, OldMeasured, SoundValuesIgnored}
-use Rattle.grid_promises.specs.declared.WriteAnswer.{WriteAnswer}
+use Rattle.grid_promises.specs.Calls.{past, readNumber, planNumber, storeNumber, used, rowsOf, columnsOf}
+use Rattle.grid_promises.specs.Demands.{Untouched}
+use Rattle.grid_promises.specs.Promises.{ReadExactly, PlanExactly, StoreExactly}
+use Rattle.grid_promises.specs.Theorems.{OneRead, OnePlan, OneStore, OutputMeasured, OldCountersMeasured, OldCellsMeasured, SameWhereStuck, PlanIgnoresSound, StoreIgnoresSound}
+use Rattle.grid_promises.specs.declared.ReadAnswer.{ReadAnswer}
+use Rattle.grid_promises.specs.declared.Answer.{Answer}
 use Rattle.grid_promises.proofs.RefusalLaws.{past-iff}
 
 -- a call is refused or accepted
@@ -22,75 +24,125 @@ either-way number f g = ⊎-elim f (λ l. g (omega arith)) (lt-or-le 0 number)
 
 -- ---- a read
 
+same-reads : (m n k : ℕ) (cells counters out out′ : List ℕ) (a a′ : ReadAnswer) (x x′ : List ℕ)
+    → length out ≡ length out′ → ReadExactly m n k cells counters out a x → ReadExactly m n k cells counters out′ a′ x′ → (a ≡ a′) × (a .number ≡ 0 → x ≡ x′)
+same-reads m n k cells counters out out′ a a′ x x′ l e f =
+    let same : a .number ≡ a′ .number = e .number ∙ ap (readNumber m n k cells counters) l ∙ sym (f .number) in
+    (λ i. record { number = same i }, λ z. e .shown z ∙ sym (f .shown (sym same ∙ z)))
+
 pub output-measured : OutputMeasured
-output-measured m n k cells counters out out′ a a′ x x′ l e f =
-    let same : a .number ≡ a′ .number = e .exactly .number ∙ ap (readNumber m n k cells counters) l ∙ sym (f .exactly .number) in
-    (λ i. record { number = same i }, λ z. e .exactly .shown z ∙ sym (f .exactly .shown (sym same ∙ z)))
+output-measured m n k cells counters out out′ a a′ x x′ l e f = same-reads m n k cells counters out out′ a a′ x x′ l (e .exactly) (f .exactly)
 
 pub one-read : OneRead
 one-read m n k cells counters out a a′ x x′ e f =
-    let (same, accepted) = output-measured m n k cells counters out out a a′ x x′ refl e f in
-    (same, either-way (a .number) (λ l. e .exactly .untouched l ∙ sym (f .exactly .untouched (rw (← same) l))) accepted)
+    let (same, accepted) = same-reads m n k cells counters out out a a′ x x′ refl e f in
+    (same, either-way (a .number) (λ l. e .untouched l ∙ sym (f .untouched (rw (← same) l))) accepted)
 
--- ---- a write
+-- ---- plans, and stores: one number, and where they are accepted one L, one F and one buffer
 
--- writes of a block and of the same with other values, that have one number, one plan and one store
-module _ (b : Block) (v : List ℕ) (k : ℕ) (cells counters cells₀ counters₀ : List ℕ) (a a′ : WriteAnswer) (x x′ y y′ : List ℕ)
-    (numbers : writeNumber b k (length cells) (length counters) ≡ writeNumber (withValues b v) k (length cells₀) (length counters₀)) (same : SameWrite b (withValues b v))
-    (e : WriteExactly b k cells counters a x y) (f : WriteExactly (withValues b v) k cells₀ counters₀ a′ x′ y′) where
-  same-number : a .number ≡ a′ .number
-  same-number = e .number ∙ numbers ∙ sym (f .number)
-
-  same-accepted : a .number ≡ 0 → (a .levels ≡ a′ .levels) × (a .faults ≡ a′ .faults) × (x ≡ x′) × (y ≡ y′)
-  same-accepted z =
-      let z′ : a′ .number ≡ 0 = sym same-number ∙ z in
-      let p = same .plans k in (
-        e .levelsAre z ∙ ap used p ∙ sym (f .levelsAre z′),
-        e .faultsAre z ∙ sym (f .faultsAre z′),
-        e .cellsAre z ∙ same .cells _ _ ∙ ap (λ o. stored (withValues b v) (rowsOf o) (columnsOf o)) p ∙ sym (f .cellsAre z′),
-        e .countersAre z ∙ ap (λ o. packed (width k) (inOrder (b .rows) (b .columns) (rowsOf o) (columnsOf o))) p ∙ sym (f .countersAre z′),
-      )
-
-  same-refused : 0 < a .number → (a .levels ≡ a′ .levels) × (a .faults ≡ a′ .faults) × (cells ≡ cells₀ → x ≡ x′) × (counters ≡ counters₀ → y ≡ y′)
+module _ (a a′ : Answer) (old old₀ x x′ : List ℕ) (same : a .number ≡ a′ .number) (u : Untouched a old x) (u′ : Untouched a′ old₀ x′)
+    (accepted : a .number ≡ 0 → (a .levels ≡ a′ .levels) × (a .faults ≡ a′ .faults) × (x ≡ x′)) where
+  same-refused : 0 < a .number → (a .levels ≡ a′ .levels) × (a .faults ≡ a′ .faults) × (old ≡ old₀ → x ≡ x′)
   same-refused l =
-      let (p, q, r, s) = e .untouched l in
-      let (p′, q′, r′, s′) = f .untouched (rw (← same-number) l) in
-      (p ∙ sym p′, q ∙ sym q′, λ h. r ∙ h ∙ sym r′, λ h. s ∙ h ∙ sym s′)
+      let (p, q, r) = u l in
+      let (p′, q′, r′) = u′ (rw (← same) l) in
+      (p ∙ sym p′, q ∙ sym q′, λ h. r ∙ h ∙ sym r′)
 
   same-answer : a ≡ a′
   same-answer =
-      let levels = either-way (a .number) (λ l. same-refused l .0) (λ z. same-accepted z .0) in
-      let faults = either-way (a .number) (λ l. same-refused l .1) (λ z. same-accepted z .1) in
-      λ i. record { number = same-number i; levels = levels i; faults = faults i }
+      let levels = either-way (a .number) (λ l. same-refused l .0) (λ z. accepted z .0) in
+      let faults = either-way (a .number) (λ l. same-refused l .1) (λ z. accepted z .1) in
+      λ i. record { number = same i; levels = levels i; faults = faults i }
 
-  same-buffers : a .number ≡ 0 → (x ≡ x′) × (y ≡ y′)
-  same-buffers z = (same-accepted z .2, same-accepted z .3)
+  same-measured : (a ≡ a′) × (a .number ≡ 0 → x ≡ x′)
+  same-measured = (same-answer, λ z. accepted z .2)
 
-  same-end : cells ≡ cells₀ → counters ≡ counters₀ → (a ≡ a′) × (x ≡ x′) × (y ≡ y′)
-  same-end c d = (
-    same-answer,
-    either-way (a .number) (λ l. same-refused l .2 c) (λ z. same-accepted z .2),
-    either-way (a .number) (λ l. same-refused l .3 d) (λ z. same-accepted z .3),
-  )
+  same-end : old ≡ old₀ → (a ≡ a′) × (x ≡ x′)
+  same-end h = (same-answer, either-way (a .number) (λ l. same-refused l .2 h) (λ z. accepted z .2))
 
 -- the block itself
 itself : (b : Block) → SameWrite b (withValues b (b .values))
-itself b = record { plans = λ k. refl; cells = λ r c. refl }
+itself b = record { plans = λ k. refl; cells = λ r c. refl; wrongs = λ r c. refl }
 
-pub old-measured : OldMeasured
-old-measured b k cells counters cells₀ counters₀ a a′ x x′ y y′ l m e f =
-    let numbers : writeNumber b k (length cells) (length counters) ≡ writeNumber b k (length cells₀) (length counters₀) = ap₂ (writeNumber b k) l m in (
-      same-answer b (b .values) k cells counters cells₀ counters₀ a a′ x x′ y y′ numbers (itself b) (e .exactly) (f .exactly),
-      same-buffers b (b .values) k cells counters cells₀ counters₀ a a′ x x′ y y′ numbers (itself b) (e .exactly) (f .exactly),
-    )
+-- values that agree at the stuck cells have bits past the last column where the block's have any
+pasts : (b : Block) (v : List ℕ) → SameWhereStuck b v → past (b .columns) v ≡ past (b .columns) (b .values)
+pasts b v s = same-test _ _
+    (λ h. past-iff (b .columns) (b .values) .1 (s .pastToo .0 (past-iff (b .columns) v .0 h)))
+    (λ h. past-iff (b .columns) v .1 (s .pastToo .1 (past-iff (b .columns) (b .values) .0 h)))
 
-pub one-write : OneWrite
-one-write b k cells counters a a′ x x′ y y′ e f = same-end b (b .values) k cells counters cells counters a a′ x x′ y y′ refl (itself b) (e .exactly) (f .exactly) refl refl
+-- ---- a plan
 
-pub sound-values-ignored : SoundValuesIgnored
-unfolding writeNumber
-sound-values-ignored b v k cells counters a a′ x x′ y y′ s e f =
+-- plans of a block and of the same with other values, that have one number and one outcome
+module _ (b : Block) (v : List ℕ) (k : ℕ) (counters counters₀ : List ℕ) (a a′ : Answer) (x x′ : List ℕ)
+    (numbers : planNumber b k (length counters) ≡ planNumber (withValues b v) k (length counters₀)) (same : SameWrite b (withValues b v))
+    (e : PlanExactly b k counters a x) (f : PlanExactly (withValues b v) k counters₀ a′ x′) where
+  plan-number : a .number ≡ a′ .number
+  plan-number = e .number ∙ numbers ∙ sym (f .number)
+
+  plan-accepted : a .number ≡ 0 → (a .levels ≡ a′ .levels) × (a .faults ≡ a′ .faults) × (x ≡ x′)
+  plan-accepted z =
+      let z′ : a′ .number ≡ 0 = sym plan-number ∙ z in
+      let p = same .plans k in (
+        e .levelsAre z ∙ ap used p ∙ sym (f .levelsAre z′),
+        e .faultsAre z ∙ sym (f .faultsAre z′),
+        e .countersAre z ∙ ap (λ o. packed (width k) (inOrder (b .rows) (b .columns) (rowsOf o) (columnsOf o))) p ∙ sym (f .countersAre z′),
+      )
+
+pub old-counters-measured : OldCountersMeasured
+old-counters-measured b k counters counters₀ a a′ x x′ l e f =
+    let numbers : planNumber b k (length counters) ≡ planNumber b k (length counters₀) = ap (planNumber b k) l in
+    let number = plan-number b (b .values) k counters counters₀ a a′ x x′ numbers (itself b) (e .exactly) (f .exactly) in
+    same-measured a a′ counters counters₀ x x′ number (e .exactly .untouched) (f .exactly .untouched)
+    (plan-accepted b (b .values) k counters counters₀ a a′ x x′ numbers (itself b) (e .exactly) (f .exactly))
+
+plans-end : (b : Block) (v : List ℕ) (k : ℕ) (counters : List ℕ) (a a′ : Answer) (x x′ : List ℕ) → planNumber b k (length counters) ≡ planNumber (withValues b v) k (length counters)
+    → SameWrite b (withValues b v) → PlanExactly b k counters a x → PlanExactly (withValues b v) k counters a′ x′ → (a ≡ a′) × (x ≡ x′)
+plans-end b v k counters a a′ x x′ numbers same e f =
+    same-end a a′ counters counters x x′ (plan-number b v k counters counters a a′ x x′ numbers same e f) (e .untouched) (f .untouched)
+    (plan-accepted b v k counters counters a a′ x x′ numbers same e f) refl
+
+pub one-plan : OnePlan
+one-plan b k counters a a′ x x′ = plans-end b (b .values) k counters a a′ x x′ refl (itself b)
+
+pub plan-ignores-sound : PlanIgnoresSound
+unfolding planNumber
+plan-ignores-sound b v k counters a a′ x x′ s e f =
     let same = sound-ignored b v (s .agree) in
-    let pasts : past (b .columns) v ≡ past (b .columns) (b .values) =
-    same-test _ _ (λ h. past-iff (b .columns) (b .values) .1 (s .pastToo .0 (past-iff (b .columns) v .0 h))) (λ h. past-iff (b .columns) v .1 (s .pastToo .1 (past-iff (b .columns) (b .values) .0 h))) in
-    same-end b v k cells counters cells counters a a′ x x′ y y′ (rw (s .size, pasts, same .plans k)) same (e .exactly) (f .exactly) refl refl
+    plans-end b v k counters a a′ x x′ (rw (s .size, pasts b v s, same .plans k)) same (e .exactly) (f .exactly)
+
+-- ---- a store
+
+-- stores of a block and of the same with other values, that have one number and the same cells
+module _ (b : Block) (v : List ℕ) (k : ℕ) (counters cells cells₀ : List ℕ) (a a′ : Answer) (x x′ : List ℕ)
+    (numbers : storeNumber b k counters (length cells) ≡ storeNumber (withValues b v) k counters (length cells₀)) (same : SameWrite b (withValues b v))
+    (e : StoreExactly b k counters cells a x) (f : StoreExactly (withValues b v) k counters cells₀ a′ x′) where
+  store-number : a .number ≡ a′ .number
+  store-number = e .number ∙ numbers ∙ sym (f .number)
+
+  store-accepted : a .number ≡ 0 → (a .levels ≡ a′ .levels) × (a .faults ≡ a′ .faults) × (x ≡ x′)
+  store-accepted z =
+      let z′ : a′ .number ≡ 0 = sym store-number ∙ z in
+      (e .levelsAre z ∙ sym (f .levelsAre z′), e .faultsAre z ∙ sym (f .faultsAre z′), e .cellsAre z ∙ same .cells _ _ ∙ sym (f .cellsAre z′))
+
+pub old-cells-measured : OldCellsMeasured
+old-cells-measured b k counters cells cells₀ a a′ x x′ l e f =
+    let numbers : storeNumber b k counters (length cells) ≡ storeNumber b k counters (length cells₀) = ap (storeNumber b k counters) l in
+    let number = store-number b (b .values) k counters cells cells₀ a a′ x x′ numbers (itself b) (e .exactly) (f .exactly) in
+    same-measured a a′ cells cells₀ x x′ number (e .exactly .untouched) (f .exactly .untouched)
+    (store-accepted b (b .values) k counters cells cells₀ a a′ x x′ numbers (itself b) (e .exactly) (f .exactly))
+
+stores-end : (b : Block) (v : List ℕ) (k : ℕ) (counters cells : List ℕ) (a a′ : Answer) (x x′ : List ℕ)
+    → storeNumber b k counters (length cells) ≡ storeNumber (withValues b v) k counters (length cells)
+    → SameWrite b (withValues b v) → StoreExactly b k counters cells a x → StoreExactly (withValues b v) k counters cells a′ x′ → (a ≡ a′) × (x ≡ x′)
+stores-end b v k counters cells a a′ x x′ numbers same e f =
+    same-end a a′ cells cells x x′ (store-number b v k counters cells cells a a′ x x′ numbers same e f) (e .untouched) (f .untouched)
+    (store-accepted b v k counters cells cells a a′ x x′ numbers same e f) refl
+
+pub one-store : OneStore
+one-store b k counters cells a a′ x x′ = stores-end b (b .values) k counters cells a a′ x x′ refl (itself b)
+
+pub store-ignores-sound : StoreIgnoresSound
+unfolding storeNumber
+store-ignores-sound b v k counters cells a a′ x x′ s e f =
+    let same = sound-ignored b v (s .agree) in
+    stores-end b v k counters cells a a′ x x′ (rw (s .size, pasts b v s, same .wrongs (rowCounter (width k) counters) (columnCounter (width k) (b .rows) counters))) same (e .exactly) (f .exactly)

@@ -1,9 +1,9 @@
 -- The tests of a number test what the refusals say, and the number is the lowest refusal that applies. Assumes nothing.
-use Prim.Native.Nat.{ℕ, _+_, _*_, _/_, _^_, _<_, _≤_}
-use mathlib.Core.Path.{_≡_, refl, sym, ap, _∙_}
-use mathlib.Core.Bool.{true, false, not}
+use Prim.Native.Nat.{ℕ, _+_, _*_, _/_, _^_, _≤_}
+use mathlib.Core.Path.{_≡_, refl, sym, ap, subst, _∙_}
+use mathlib.Core.Bool.{Bool, true, false, not, xor}
 use mathlib.Core.List.{List}
-use mathlib.Core.Logic.{_↔_, _⊎_, inl, inr, Iff·trans, ⊎-elim}
+use mathlib.Core.Logic.{_↔_, _⊎_, _≢_, inl, inr, Iff·trans, ⊎-elim}
 use native.Mathlib.Nat.{mod-lt}
 use native.Mathlib.Omega.{arith}
 use borrow.Author.Tests.{leb-false, lt-leb}
@@ -12,18 +12,21 @@ use lib.ListN.{length, getD}
 use lib.Pow.{pow-pos}
 use Rattle.bits.specs.Bits.{has, number, Below}
 use Rattle.bits.specs.Lowest.{Lowest}
-use Rattle.bits.proofs.TestLaws.{clash, lt-or-le, leb-iff, ltb-iff, eqb-iff, not-iff, and-iff, or-iff}
+use Rattle.bits.proofs.TestLaws.{clash, true-or-false, xor-none, lt-or-le, leb-iff, ltb-iff, eqb-iff, not-iff, and-iff, or-iff}
 use Rattle.bits.proofs.LowestLaws.{From, test-first, from-none, from-first}
 use Rattle.bits.proofs.BoundLaws.{none-below, some-none, some-iff}
 use Rattle.bits.proofs.BitLaws.{has-zero, has-ext, has-low, has-shr, high-bit}
 use Rattle.bits.proofs.ByteLaws.{past-end, below-all}
-use Rattle.rdis.specs.Block.{Block, bit}
+use Rattle.rdis.specs.Block.{Block, bit, stuck}
 use Rattle.rdis.specs.Levels.{Outcome, masked, unmaskable, plan}
 use Rattle.rdis.specs.Chains.{HasChain}
-use Rattle.rdis.specs.Packing.{width, bytesFor, counter, spareClear, above}
+use Rattle.rdis.specs.Cells.{flips, misreads}
+use Rattle.rdis.specs.Packing.{width, bytesFor, counter, rowCounter, columnCounter, spareClear, above}
 use Rattle.rdis.proofs.LevelLaws.{refused-by-chain}
-use Rattle.grid_promises.specs.Calls.{between, inRange, sized, past, readSized, readPast, readNumber, writeSized, writePast, refusal, writeNumber}
-use Rattle.grid_promises.specs.Refusals.{InRange, ReadLengths, WriteLengths, Past, Spare, Held, ReadRefused, rangeRead, lengthRead, pastRead, spareRead, aboveRead, WriteRefused, rangeWrite, lengthWrite, pastWrite, chainWrite}
+use Rattle.grid_promises.specs.Calls.{between, inRange, countersSized, past, readSized, readPast, readNumber, rowsSized, planSized, planPast, refusal, planNumber, storeSized, storePast, storeNumber}
+use Rattle.grid_promises.specs.Refusals.{InRange, ReadLengths, PlanLengths, StoreLengths, Past, Spare, Held, Above, inverted, PastBlock, Misread}
+use Rattle.grid_promises.specs.Refusals.{ReadRefused, rangeRead, lengthRead, pastRead, spareRead, aboveRead, PlanRefused, rangePlan, lengthPlan, pastPlan, chainPlan}
+use Rattle.grid_promises.specs.Refusals.{StoreRefused, rangeStore, lengthStore, pastStore, spareStore, aboveStore, misreadStore}
 
 -- ---- each test
 
@@ -36,22 +39,31 @@ in-range m n k =
     Iff·trans (and-iff _ (between-iff _ _ m) _ (and-iff _ (between-iff _ _ n) _ (between-iff _ _ k)))
     (λ (x, (y, z)). record { rows = x; columns = y; levels = z }, λ r. (r .rows, (r .columns, r .levels)))
 
-sized-iff : (m n k cells counters : ℕ) → (sized m n k cells counters ≡ true) ↔ ((cells ≡ m) × (counters ≡ bytesFor (width k) (m + n)))
-unfolding sized
-sized-iff m n k cells counters = and-iff _ (eqb-iff cells m) _ (eqb-iff counters (bytesFor (width k) (m + n)))
+counters-sized : (m n k counters : ℕ) → (countersSized m n k counters ≡ true) ↔ (counters ≡ bytesFor (width k) (m + n))
+unfolding countersSized
+counters-sized m n k counters = eqb-iff counters (bytesFor (width k) (m + n))
 
 pub read-sized : (m n k cells counters out : ℕ) → (readSized m n k cells counters out ≡ true) ↔ ReadLengths m n k cells counters out
 read-sized m n k cells counters out =
-    Iff·trans (and-iff _ (sized-iff m n k cells counters) _ (eqb-iff out m))
-    (λ ((x, y), z). record { cellWords = x; counterBytes = y; outWords = z }, λ r. ((r .cellWords, r .counterBytes), r .outWords))
+    Iff·trans (and-iff _ (and-iff _ (eqb-iff cells m) _ (eqb-iff out m)) _ (counters-sized m n k counters))
+    (λ ((x, y), z). record { cellWords = x; counterBytes = z; outWords = y }, λ r. ((r .cellWords, r .outWords), r .counterBytes))
 
-pub write-sized : (b : Block) (k cells counters : ℕ) → (writeSized b k cells counters ≡ true) ↔ WriteLengths b k cells counters
-write-sized b k cells counters =
-    Iff·trans
-    (and-iff _ (eqb-iff (length (b .data·)) (b .rows)) _
-    (and-iff _ (eqb-iff (length (b .mask)) (b .rows)) _ (and-iff _ (eqb-iff (length (b .values)) (b .rows)) _ (sized-iff (b .rows) (b .columns) k cells counters)))) (
-      λ (x, (y, (z, (u, v)))). record { dataWords = x; maskWords = y; valueWords = z; cellWords = u; counterBytes = v },
-      λ r. (r .dataWords, (r .maskWords, (r .valueWords, (r .cellWords, r .counterBytes)))),
+rows-sized : (b : Block) → (rowsSized b ≡ true) ↔ ((length (b .data·) ≡ b .rows) × ((length (b .mask) ≡ b .rows) × (length (b .values) ≡ b .rows)))
+rows-sized b =
+    and-iff _ (eqb-iff (length (b .data·)) (b .rows)) _ (and-iff _ (eqb-iff (length (b .mask)) (b .rows)) _ (eqb-iff (length (b .values)) (b .rows)))
+
+pub plan-sized : (b : Block) (k counters : ℕ) → (planSized b k counters ≡ true) ↔ PlanLengths b k counters
+plan-sized b k counters =
+    Iff·trans (and-iff _ (rows-sized b) _ (counters-sized (b .rows) (b .columns) k counters)) (
+      λ ((x, (y, z)), v). record { dataWords = x; maskWords = y; valueWords = z; counterBytes = v },
+      λ r. ((r .dataWords, (r .maskWords, r .valueWords)), r .counterBytes),
+    )
+
+pub store-sized : (b : Block) (k counters cells : ℕ) → (storeSized b k counters cells ≡ true) ↔ StoreLengths b k counters cells
+store-sized b k counters cells =
+    Iff·trans (and-iff _ (and-iff _ (rows-sized b) _ (eqb-iff cells (b .rows))) _ (counters-sized (b .rows) (b .columns) k counters)) (
+      λ (((x, (y, z)), u), v). record { planned = record { dataWords = x; maskWords = y; valueWords = z; counterBytes = v }; cellWords = u },
+      λ r. let p = r .planned in (((p .dataWords, (p .maskWords, p .valueWords)), r .cellWords), p .counterBytes),
     )
 
 -- words without bits past the last column are numbers of n bits
@@ -79,23 +91,65 @@ spare-iff w n bs =
 read-past-iff : (m n k : ℕ) (cells counters : List ℕ) → (readPast m n k cells counters ≡ true) ↔ (Past n cells ⊎ Spare (width k) (m + n) counters)
 read-past-iff m n k cells counters = or-iff _ (past-iff n cells) _ (spare-iff (width k) (m + n) counters)
 
-write-past-iff : (b : Block) → (writePast b ≡ true) ↔ (Past (b .columns) (b .data·) ⊎ (Past (b .columns) (b .mask) ⊎ Past (b .columns) (b .values)))
-write-past-iff b = or-iff _ (past-iff (b .columns) (b .data·)) _ (or-iff _ (past-iff (b .columns) (b .mask)) _ (past-iff (b .columns) (b .values)))
+pub plan-past-iff : (b : Block) → (planPast b ≡ true) ↔ PastBlock b
+plan-past-iff b = or-iff _ (past-iff (b .columns) (b .data·)) _ (or-iff _ (past-iff (b .columns) (b .mask)) _ (past-iff (b .columns) (b .values)))
+
+store-past-iff : (b : Block) (k : ℕ) (counters : List ℕ) → (storePast b k counters ≡ true) ↔ (PastBlock b ⊎ Spare (width k) (b .rows + b .columns) counters)
+store-past-iff b k counters = or-iff _ (plan-past-iff b) _ (spare-iff (width k) (b .rows + b .columns) counters)
 
 -- a counter is what its bits make, and nothing else is
-counter-held : (w t : ℕ) (bs : List ℕ) → Held w bs t (counter w bs t)
+pub counter-held : (w t : ℕ) (bs : List ℕ) → Held w bs t (counter w bs t)
 unfolding counter
 counter-held w t bs = (mod-lt (number 256 bs / 2 ^ (w * t)) (pow-pos w), λ q p. has-low w (number 256 bs / 2 ^ (w * t)) q p ∙ has-shr (number 256 bs) (w * t) q)
 
 pub held-is : (w t x : ℕ) (bs : List ℕ) → Held w bs t x → counter w bs t ≡ x
 held-is w t x bs (l, f) = let (m, g) = counter-held w t bs in has-ext w (counter w bs t) x m l (λ q p. g q p ∙ sym (f q p))
 
-above-iff : (m n k : ℕ) (counters : List ℕ) → (above k (m + n) counters ≡ true) ↔ ((t : ℕ) × (t < m + n) × ((x : ℕ) × Held (width k) counters t x × (k < x)))
+above-iff : (n k : ℕ) (counters : List ℕ) → (above k n counters ≡ true) ↔ Above k n counters
 unfolding above
-above-iff m n k counters = some-iff (m + n) _ _ (λ t. Iff·trans (ltb-iff k (counter (width k) counters t)) (
+above-iff n k counters = some-iff n _ _ (λ t. Iff·trans (ltb-iff k (counter (width k) counters t)) (
   λ h. (counter (width k) counters t, counter-held (width k) t counters, h),
   λ (x, held, h). rw (held-is (width k) t x counters held) h,
 ))
+
+-- two bits differ
+differ-iff : (a b : Bool) → (xor a b ≡ true) ↔ (a ≢ b)
+differ-iff a b = (λ h e. clash h (xor-none a b .1 (sym e)), λ n. ⊎-elim (λ h. h) (λ h. absurd (n (sym (xor-none a b .0 h)))) (true-or-false (xor a b)))
+
+pub misread-iff : (b : Block) (k : ℕ) (counters : List ℕ)
+    → (misreads b (rowCounter (width k) counters) (columnCounter (width k) (b .rows) counters) ≡ true) ↔ Misread b k counters
+unfolding misreads flips
+misread-iff b k counters =
+    let r = rowCounter (width k) counters in
+    let c = columnCounter (width k) (b .rows) counters in
+    Iff·trans
+    (some-iff (b .rows) _ _ (λ i. some-iff (b .columns) _ _ (λ j.
+    and-iff (stuck b i j) (λ h. h, λ h. h) (xor (inverted (r i) (c j) (bit (b .values) i j)) (bit (b .data·) i j)) (differ-iff (inverted (r i) (c j) (bit (b .values) i j)) (bit (b .data·) i j))))) (
+      λ (i, p, (j, q, (s, w))). record {
+        i = i;
+        j = j;
+        inside = (p, q);
+        isStuck = s;
+        x = r i;
+        y = c j;
+        ofRow = counter-held (width k) i counters;
+        ofColumn = counter-held (width k) (b .rows + j) counters;
+        wrong = w;
+      },
+      λ m. (
+        m .i,
+        m .inside .0,
+        (
+          m .j,
+          m .inside .1,
+          (
+            m .isStuck,
+            subst (λ x. inverted x (c (m .j)) (bit (b .values) (m .i) (m .j)) ≢ bit (b .data·) (m .i) (m .j)) (sym (held-is (width k) (m .i) (m .x) counters (m .ofRow)))
+                (subst (λ y. inverted (m .x) y (bit (b .values) (m .i) (m .j)) ≢ bit (b .data·) (m .i) (m .j)) (sym (held-is (width k) (b .rows + m .j) (m .y) counters (m .ofColumn))) (m .wrong)),
+          ),
+        ),
+      ),
+    )
 
 -- ---- a read
 
@@ -110,15 +164,15 @@ module _ (m n k : ℕ) (cells counters : List ℕ) (out : ℕ) where
   read-3 (pastRead h) = inl h
   read-3 (spareRead h) = inr h
 
-  read-4 : ReadRefused m n k cells counters out 4 → (t : ℕ) × (t < m + n) × ((x : ℕ) × Held (width k) counters t x × (k < x))
-  read-4 (aboveRead t x l held h) = (t, l, (x, held, h))
+  read-4 : ReadRefused m n k cells counters out 4 → Above k (m + n) counters
+  read-4 (aboveRead h) = h
 
   read-some : (y : ℕ) → ReadRefused m n k cells counters out y → (1 ≤ y) × (y ≤ 4)
   read-some y (rangeRead h) = (omega arith, omega arith)
   read-some y (lengthRead h) = (omega arith, omega arith)
   read-some y (pastRead h) = (omega arith, omega arith)
   read-some y (spareRead h) = (omega arith, omega arith)
-  read-some y (aboveRead t x l held h) = (omega arith, omega arith)
+  read-some y (aboveRead h) = (omega arith, omega arith)
 
   pub read-lowest : Lowest (ReadRefused m n k cells counters out) (readNumber m n k cells counters out)
   unfolding readNumber
@@ -128,51 +182,104 @@ module _ (m n k : ℕ) (cells counters : List ℕ) (out : ℕ) where
       (test-first P 1 _ _ (omega arith) (Iff·trans (not-iff _ (in-range m n k)) (rangeRead, read-1)) (λ _.
       test-first P 2 _ _ (omega arith) (Iff·trans (not-iff _ (read-sized m n k (length cells) (length counters) out)) (lengthRead, read-2)) (λ _.
       test-first P 3 _ _ (omega arith) (Iff·trans (read-past-iff m n k cells counters) (⊎-elim pastRead spareRead, read-3)) (λ _.
-      test-first P 4 0 _ (omega arith) (Iff·trans (above-iff m n k counters) (λ (t, l, (x, held, h)). aboveRead t x l held h, read-4)) (λ _.
+      test-first P 4 0 _ (omega arith) (Iff·trans (above-iff (m + n) k counters) (aboveRead, read-4)) (λ _.
       from-none P 5 (λ y q p. omega (arith, read-some y p)))))))
 
--- ---- a write
+-- ---- a plan
 
-module _ (b : Block) (k cells counters : ℕ) where
-  write-1 : WriteRefused b k cells counters 1 → InRange (b .rows) (b .columns) k → ⊥
-  write-1 (rangeWrite h) = h
+module _ (b : Block) (k counters : ℕ) where
+  plan-1 : PlanRefused b k counters 1 → InRange (b .rows) (b .columns) k → ⊥
+  plan-1 (rangePlan h) = h
 
-  write-2 : WriteRefused b k cells counters 2 → WriteLengths b k cells counters → ⊥
-  write-2 (lengthWrite h) = h
+  plan-2 : PlanRefused b k counters 2 → PlanLengths b k counters → ⊥
+  plan-2 (lengthPlan h) = h
 
-  write-3 : WriteRefused b k cells counters 3 → Past (b .columns) (b .data·) ⊎ (Past (b .columns) (b .mask) ⊎ Past (b .columns) (b .values))
-  write-3 (pastWrite h) = h
+  plan-3 : PlanRefused b k counters 3 → PastBlock b
+  plan-3 (pastPlan h) = h
 
-  write-some : (y : ℕ) → WriteRefused b k cells counters y → 1 ≤ y
-  write-some y (rangeWrite h) = omega arith
-  write-some y (lengthWrite h) = omega arith
-  write-some y (pastWrite h) = omega arith
-  write-some y (chainWrite h) = omega arith
+  plan-some : (y : ℕ) → PlanRefused b k counters y → 1 ≤ y
+  plan-some y (rangePlan h) = omega arith
+  plan-some y (lengthPlan h) = omega arith
+  plan-some y (pastPlan h) = omega arith
+  plan-some y (chainPlan h) = omega arith
 
-  pub write-7 : (y : ℕ) → 4 ≤ y → WriteRefused b k cells counters y → (y ≡ 7) × HasChain b (2 * k + 1)
-  write-7 y l (rangeWrite h) = absurd (omega arith)
-  write-7 y l (lengthWrite h) = absurd (omega arith)
-  write-7 y l (pastWrite h) = absurd (omega arith)
-  write-7 y l (chainWrite h) = (refl, h)
+  pub plan-7 : (y : ℕ) → 4 ≤ y → PlanRefused b k counters y → (y ≡ 7) × HasChain b (2 * k + 1)
+  plan-7 y l (rangePlan h) = absurd (omega arith)
+  plan-7 y l (lengthPlan h) = absurd (omega arith)
+  plan-7 y l (pastPlan h) = absurd (omega arith)
+  plan-7 y l (chainPlan h) = (refl, h)
 
   -- the levels refuse exactly where there is the chain
-  by-levels : (o : Outcome) → plan b k ≡ o → From (WriteRefused b k cells counters) 4 (refusal o)
+  by-levels : (o : Outcome) → plan b k ≡ o → From (PlanRefused b k counters) 4 (refusal o)
   by-levels (masked l r c) e = record {
     applies = λ z. absurd (omega arith);
     lowest = λ y z p. omega arith;
-    none = λ z y (q, p). let f : plan b k ≡ unmaskable = refused-by-chain b k .1 (write-7 y q p .1) in let g : _≡_ {A = ℕ} 0 1 = cc in omega arith;
+    none = λ z y (q, p). let f : plan b k ≡ unmaskable = refused-by-chain b k .1 (plan-7 y q p .1) in let g : _≡_ {A = ℕ} 0 1 = cc in omega arith;
   }
   by-levels unmaskable e = record {
-    applies = λ z. (omega arith, chainWrite (refused-by-chain b k .0 e));
-    lowest = λ y z (q, p). omega (arith, write-7 y q p);
+    applies = λ z. (omega arith, chainPlan (refused-by-chain b k .0 e));
+    lowest = λ y z (q, p). omega (arith, plan-7 y q p);
     none = λ z y p. omega arith;
   }
 
-  pub write-lowest : Lowest (WriteRefused b k cells counters) (writeNumber b k cells counters)
-  unfolding writeNumber
-  write-lowest =
-      let P = WriteRefused b k cells counters in
-      from-first P _ write-some
-      (test-first P 1 _ _ (omega arith) (Iff·trans (not-iff _ (in-range (b .rows) (b .columns) k)) (rangeWrite, write-1)) (λ _.
-      test-first P 2 _ _ (omega arith) (Iff·trans (not-iff _ (write-sized b k cells counters)) (lengthWrite, write-2)) (λ _.
-      test-first P 3 _ _ (omega arith) (Iff·trans (write-past-iff b) (pastWrite, write-3)) (λ _. by-levels (plan b k) refl))))
+  pub plan-lowest : Lowest (PlanRefused b k counters) (planNumber b k counters)
+  unfolding planNumber
+  plan-lowest =
+      let P = PlanRefused b k counters in
+      from-first P _ plan-some
+      (test-first P 1 _ _ (omega arith) (Iff·trans (not-iff _ (in-range (b .rows) (b .columns) k)) (rangePlan, plan-1)) (λ _.
+      test-first P 2 _ _ (omega arith) (Iff·trans (not-iff _ (plan-sized b k counters)) (lengthPlan, plan-2)) (λ _.
+      test-first P 3 _ _ (omega arith) (Iff·trans (plan-past-iff b) (pastPlan, plan-3)) (λ _. by-levels (plan b k) refl))))
+
+-- ---- a store
+
+module _ (b : Block) (k : ℕ) (counters : List ℕ) (cells : ℕ) where
+  store-1 : StoreRefused b k counters cells 1 → InRange (b .rows) (b .columns) k → ⊥
+  store-1 (rangeStore h) = h
+
+  store-2 : StoreRefused b k counters cells 2 → StoreLengths b k (length counters) cells → ⊥
+  store-2 (lengthStore h) = h
+
+  store-3 : StoreRefused b k counters cells 3 → PastBlock b ⊎ Spare (width k) (b .rows + b .columns) counters
+  store-3 (pastStore h) = inl h
+  store-3 (spareStore h) = inr h
+
+  store-4 : StoreRefused b k counters cells 4 → Above k (b .rows + b .columns) counters
+  store-4 (aboveStore h) = h
+
+  store-some : (y : ℕ) → StoreRefused b k counters cells y → 1 ≤ y
+  store-some y (rangeStore h) = omega arith
+  store-some y (lengthStore h) = omega arith
+  store-some y (pastStore h) = omega arith
+  store-some y (spareStore h) = omega arith
+  store-some y (aboveStore h) = omega arith
+  store-some y (misreadStore h) = omega arith
+
+  pub store-13 : (y : ℕ) → 5 ≤ y → StoreRefused b k counters cells y → (y ≡ 13) × Misread b k counters
+  store-13 y l (rangeStore h) = absurd (omega arith)
+  store-13 y l (lengthStore h) = absurd (omega arith)
+  store-13 y l (pastStore h) = absurd (omega arith)
+  store-13 y l (spareStore h) = absurd (omega arith)
+  store-13 y l (aboveStore h) = absurd (omega arith)
+  store-13 y l (misreadStore h) = (refl, h)
+
+  -- nothing is between 4 and 13
+  after-4 : (x : ℕ) → From (StoreRefused b k counters cells) 13 x → From (StoreRefused b k counters cells) 5 x
+  after-4 x r = record {
+    applies = λ l. let (q, p) = r .applies l in (omega arith, p);
+    lowest = λ y l (q, p). r .lowest y l (omega (arith, store-13 y q p .0), p);
+    none = λ e y (q, p). r .none e y (omega (arith, store-13 y q p .0), p);
+  }
+
+  pub store-lowest : Lowest (StoreRefused b k counters cells) (storeNumber b k counters cells)
+  unfolding storeNumber
+  store-lowest =
+      let P = StoreRefused b k counters cells in
+      from-first P _ store-some
+      (test-first P 1 _ _ (omega arith) (Iff·trans (not-iff _ (in-range (b .rows) (b .columns) k)) (rangeStore, store-1)) (λ _.
+      test-first P 2 _ _ (omega arith) (Iff·trans (not-iff _ (store-sized b k (length counters) cells)) (lengthStore, store-2)) (λ _.
+      test-first P 3 _ _ (omega arith) (Iff·trans (store-past-iff b k counters) (⊎-elim pastStore spareStore, store-3)) (λ _.
+      test-first P 4 _ _ (omega arith) (Iff·trans (above-iff (b .rows + b .columns) k counters) (aboveStore, store-4)) (λ _.
+      after-4 _
+      (test-first P 13 0 _ (omega arith) (Iff·trans (misread-iff b k counters) (misreadStore, λ p. store-13 13 (omega arith) p .1)) (λ _.
+      from-none P 14 (λ y q p. omega (arith, store-13 y (omega arith) p .0)))))))))

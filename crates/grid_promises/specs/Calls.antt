@@ -1,4 +1,4 @@
--- What the two calls on grid blocks answer: the refusal that applies, and the blocks and counters they speak of. Assumes nothing.
+-- What the three calls on grid blocks answer: the refusal that applies, and the blocks and counters they speak of. Assumes nothing.
 use Prim.Native.Nat.{ℕ, _+_, _^_}
 use mathlib.Core.Bool.{Bool, not, cond, _&&_, _||_}
 use mathlib.Core.List.{List}
@@ -7,7 +7,8 @@ use lib.Dec.{eqb, leb}
 use Rattle.bits.specs.Bits.{some}
 use Rattle.rdis.specs.Block.{Block}
 use Rattle.rdis.specs.Levels.{Outcome, masked, unmaskable, plan}
-use Rattle.rdis.specs.Packing.{width, bytesFor, above, spareClear}
+use Rattle.rdis.specs.Cells.{misreads}
+use Rattle.rdis.specs.Packing.{width, bytesFor, rowCounter, columnCounter, above, spareClear}
 
 -- ---- what is judged. m are the rows, n the columns, k is K
 
@@ -19,9 +20,9 @@ between first last x = leb first x && leb x last
 unfoldable pub inRange : ℕ → ℕ → ℕ → Bool
 inRange m n k = between 1 64 m && (between 1 64 n && between 1 3 k)
 
--- a buffer of cells and one of counters, of these lengths, are as long as they should be
-unfoldable pub sized : ℕ → ℕ → ℕ → ℕ → ℕ → Bool
-sized m n k cells counters = eqb cells m && eqb counters (bytesFor (width k) (m + n))
+-- so many bytes are what the counters take
+unfoldable pub countersSized : ℕ → ℕ → ℕ → ℕ → Bool
+countersSized m n k counters = eqb counters (bytesFor (width k) (m + n))
 
 -- a word has a bit past the last column
 unfoldable pub past : ℕ → List ℕ → Bool
@@ -31,7 +32,7 @@ past n ws = some (length ws) (λ i. leb (2 ^ n) (getD ws i 0))
 
 -- refusal 2 does not apply
 abbrev pub readSized : ℕ → ℕ → ℕ → ℕ → ℕ → ℕ → Bool
-readSized m n k cells counters out = sized m n k cells counters && eqb out m
+readSized m n k cells counters out = (eqb cells m && eqb out m) && countersSized m n k counters
 
 -- refusal 3 applies: a cell's bit past the last column, or a spare bit of the counters
 abbrev pub readPast : ℕ → ℕ → ℕ → List ℕ → List ℕ → Bool
@@ -42,32 +43,53 @@ readNumber m n k cells counters out =
     cond (not (inRange m n k)) 1
     (cond (not (readSized m n k (length cells) (length counters) out)) 2 (cond (readPast m n k cells counters) 3 (cond (above k (m + n) counters) 4 0)))
 
--- ---- the number of a write: of the old cells and the old counters only the lengths count
+-- ---- the number of a plan: of the old counters only the length counts
 
--- the block that a write is lent
+-- the block that a plan and a store are lent
 abbrev pub block : ℕ → ℕ → List ℕ → List ℕ → List ℕ → Block
 block m n d mask values = record { rows = m; columns = n; data· = d; mask = mask; values = values }
 
--- refusal 2 does not apply
-abbrev pub writeSized : Block → ℕ → ℕ → ℕ → Bool
-writeSized b k cells counters =
-    eqb (length (b .data·)) (b .rows) && (eqb (length (b .mask)) (b .rows) && (eqb (length (b .values)) (b .rows) && sized (b .rows) (b .columns) k cells counters))
+-- data, mask and values have a word a row
+abbrev pub rowsSized : Block → Bool
+rowsSized b = eqb (length (b .data·)) (b .rows) && (eqb (length (b .mask)) (b .rows) && eqb (length (b .values)) (b .rows))
 
--- refusal 3 applies: a bit past the last column in a word that is read
-abbrev pub writePast : Block → Bool
-writePast b = past (b .columns) (b .data·) || (past (b .columns) (b .mask) || past (b .columns) (b .values))
+-- refusal 2 does not apply
+abbrev pub planSized : Block → ℕ → ℕ → Bool
+planSized b k counters = rowsSized b && countersSized (b .rows) (b .columns) k counters
+
+-- refusal 3 applies: a bit past the last column in data, mask or values
+abbrev pub planPast : Block → Bool
+planPast b = past (b .columns) (b .data·) || (past (b .columns) (b .mask) || past (b .columns) (b .values))
 
 -- the refusal that the levels give
 abbrev pub refusal : Outcome → ℕ
 refusal (masked l r c) = 0
 refusal unmaskable = 7
 
-unfoldable pub writeNumber : Block → ℕ → ℕ → ℕ → ℕ
-writeNumber b k cells counters =
+unfoldable pub planNumber : Block → ℕ → ℕ → ℕ
+planNumber b k counters =
     cond (not (inRange (b .rows) (b .columns) k)) 1
-    (cond (not (writeSized b k cells counters)) 2 (cond (writePast b) 3 (refusal (plan b k))))
+    (cond (not (planSized b k counters)) 2 (cond (planPast b) 3 (refusal (plan b k))))
 
--- ---- what an outcome says of an accepted write: the levels used, and the counters of rows and columns
+-- ---- the number of a store: of the old cells only the length counts
+
+-- refusal 2 does not apply
+abbrev pub storeSized : Block → ℕ → ℕ → ℕ → Bool
+storeSized b k counters cells = (rowsSized b && eqb cells (b .rows)) && countersSized (b .rows) (b .columns) k counters
+
+-- refusal 3 applies: as for a plan, or a spare bit of the counters
+abbrev pub storePast : Block → ℕ → List ℕ → Bool
+storePast b k counters = planPast b || not (spareClear (width k) (b .rows + b .columns) counters)
+
+unfoldable pub storeNumber : Block → ℕ → List ℕ → ℕ → ℕ
+storeNumber b k counters cells =
+    cond (not (inRange (b .rows) (b .columns) k)) 1
+    (cond (not (storeSized b k (length counters) cells)) 2
+    (cond (storePast b k counters) 3
+    (cond (above k (b .rows + b .columns) counters) 4
+    (cond (misreads b (rowCounter (width k) counters) (columnCounter (width k) (b .rows) counters)) 13 0))))
+
+-- ---- what an outcome says of an accepted plan: the levels used, and the counters of rows and columns
 
 abbrev pub used : Outcome → ℕ
 used (masked l r c) = l

@@ -1,3 +1,5 @@
 pub mod Calls
 pub mod Refusals
+pub mod Demands
 pub mod Promises
+pub mod Theorems

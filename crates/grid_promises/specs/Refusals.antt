@@ -1,12 +1,13 @@
 -- When each numbered refusal applies, said of the arguments themselves and not by the tests that a number is computed from. Assumes nothing.
-use Prim.Native.Nat.{ℕ, _+_, _*_, _^_, _<_, _≤_}
+use Prim.Native.Nat.{ℕ, _+_, _*_, _%_, _^_, _<_, _≤_, min}
 use mathlib.Core.Path.{_≡_}
-use mathlib.Core.Bool.{true}
+use mathlib.Core.Bool.{Bool, true, xor}
 use mathlib.Core.List.{List}
-use mathlib.Core.Logic.{_⊎_}
+use mathlib.Core.Logic.{_⊎_, _≢_}
+use lib.Dec.{eqb}
 use lib.ListN.{length}
 use Rattle.bits.specs.Bits.{has, number}
-use Rattle.rdis.specs.Block.{Block, bit}
+use Rattle.rdis.specs.Block.{Block, bit, stuck}
 use Rattle.rdis.specs.Chains.{HasChain}
 use Rattle.rdis.specs.Packing.{width, bytesFor}
 
@@ -22,13 +23,17 @@ pub record ReadLengths (m n k cells counters out : ℕ) : Type 0 where
   pub counterBytes : counters ≡ bytesFor (width k) (m + n)
   pub outWords : out ≡ m
 
--- and every one that a write is lent
-pub record WriteLengths (b : Block) (k cells counters : ℕ) : Type 0 where
+-- every one that a plan is lent
+pub record PlanLengths (b : Block) (k counters : ℕ) : Type 0 where
   pub dataWords : length (b .data·) ≡ b .rows
   pub maskWords : length (b .mask) ≡ b .rows
   pub valueWords : length (b .values) ≡ b .rows
-  pub cellWords : cells ≡ b .rows
   pub counterBytes : counters ≡ bytesFor (width k) (b .rows + b .columns)
+
+-- and every one that a store is lent: those of a plan, and the cells
+pub record StoreLengths (b : Block) (k counters cells : ℕ) : Type 0 where
+  pub planned : PlanLengths b k counters
+  pub cellWords : cells ≡ b .rows
 
 -- some word has a bit past the last of n columns
 abbrev pub Past : ℕ → List ℕ → Type 0
@@ -42,17 +47,50 @@ Spare w n bs = (p : ℕ) × (w * n ≤ p) × (has (number 256 bs) p ≡ true)
 abbrev pub Held : ℕ → List ℕ → ℕ → ℕ → Type 0
 Held w bs t x = (x < 2 ^ w) × ((q : ℕ) → q < w → has x q ≡ has (number 256 bs) (w * t + q))
 
+-- one of the first n counters of the bytes is above K
+abbrev pub Above : ℕ → ℕ → List ℕ → Type 0
+Above k n bs = (t : ℕ) × (t < n) × ((x : ℕ) × Held (width k) bs t x × (k < x))
+
+-- the bit v of a cell, inverted where the smaller of the counters x of its row and y of its column is odd
+abbrev pub inverted : ℕ → ℕ → Bool → Bool
+inverted x y v = xor (eqb (min x y % 2) 1) v
+
 -- the refusals of a read, each by its number. Of the output only the length counts
 pub data ReadRefused (m n k : ℕ) (cells counters : List ℕ) (out : ℕ) : ℕ → Type 0 where
   rangeRead : (InRange m n k → ⊥) → ReadRefused m n k cells counters out 1
   lengthRead : (ReadLengths m n k (length cells) (length counters) out → ⊥) → ReadRefused m n k cells counters out 2
   pastRead : Past n cells → ReadRefused m n k cells counters out 3
   spareRead : Spare (width k) (m + n) counters → ReadRefused m n k cells counters out 3
-  aboveRead : (t x : ℕ) → t < m + n → Held (width k) counters t x → k < x → ReadRefused m n k cells counters out 4
+  aboveRead : Above k (m + n) counters → ReadRefused m n k cells counters out 4
 
--- the refusals of a write. Of the old cells and the old counters only the lengths count
-pub data WriteRefused (b : Block) (k cells counters : ℕ) : ℕ → Type 0 where
-  rangeWrite : (InRange (b .rows) (b .columns) k → ⊥) → WriteRefused b k cells counters 1
-  lengthWrite : (WriteLengths b k cells counters → ⊥) → WriteRefused b k cells counters 2
-  pastWrite : Past (b .columns) (b .data·) ⊎ (Past (b .columns) (b .mask) ⊎ Past (b .columns) (b .values)) → WriteRefused b k cells counters 3
-  chainWrite : HasChain b (2 * k + 1) → WriteRefused b k cells counters 7
+-- a word of data, mask or values has a bit past the last column
+abbrev pub PastBlock : Block → Type 0
+PastBlock b = Past (b .columns) (b .data·) ⊎ (Past (b .columns) (b .mask) ⊎ Past (b .columns) (b .values))
+
+-- the refusals of a plan. Of the old counters only the length counts
+pub data PlanRefused (b : Block) (k counters : ℕ) : ℕ → Type 0 where
+  rangePlan : (InRange (b .rows) (b .columns) k → ⊥) → PlanRefused b k counters 1
+  lengthPlan : (PlanLengths b k counters → ⊥) → PlanRefused b k counters 2
+  pastPlan : PastBlock b → PlanRefused b k counters 3
+  chainPlan : HasChain b (2 * k + 1) → PlanRefused b k counters 7
+
+-- some stuck cell (i, j) would read wrong by the counters x of its row and y of its column: its stuck value, inverted where they say so, is not its data bit
+pub record Misread (b : Block) (k : ℕ) (counters : List ℕ) : Type 0 where
+  pub i : ℕ
+  pub j : ℕ
+  pub inside : (i < b .rows) × (j < b .columns)
+  pub isStuck : stuck b i j ≡ true
+  pub x : ℕ
+  pub y : ℕ
+  pub ofRow : Held (width k) counters i x
+  pub ofColumn : Held (width k) counters (b .rows + j) y
+  pub wrong : inverted x y (bit (b .values) i j) ≢ bit (b .data·) i j
+
+-- the refusals of a store. Of the old cells only the length counts
+pub data StoreRefused (b : Block) (k : ℕ) (counters : List ℕ) (cells : ℕ) : ℕ → Type 0 where
+  rangeStore : (InRange (b .rows) (b .columns) k → ⊥) → StoreRefused b k counters cells 1
+  lengthStore : (StoreLengths b k (length counters) cells → ⊥) → StoreRefused b k counters cells 2
+  pastStore : PastBlock b → StoreRefused b k counters cells 3
+  spareStore : Spare (width k) (b .rows + b .columns) counters → StoreRefused b k counters cells 3
+  aboveStore : Above k (b .rows + b .columns) counters → StoreRefused b k counters cells 4
+  misreadStore : Misread b k counters → StoreRefused b k counters cells 13

@@ -5,7 +5,7 @@ use mathlib.Core.List.{[], _∷_}
 use Prim.Native.Nat.{ℕ}
 use lib.ListN.{getD}
 use Rattle.bits.specs.Bits.{has, sum, list, word, words}
-use Rattle.grid_sets.specs.Sets.{setsOf, times, crossings, odd, someLine}
+use Rattle.grid_sets.specs.Sets.{setsOf, times, crossings, odd, someLine, filled}
 
 abbrev rows : ℕ → ℕ
 rows i = getD (0 ∷ 1 ∷ 2 ∷ 3 ∷ []) i 0
@@ -38,3 +38,8 @@ in-pattern = (refl, refl, refl, refl)
 has-line : (someLine (setsOf 4 rows) (setsOf 3 columns) 3 ≡ false) × (someLine (setsOf 4 rows) (setsOf 2 columns) 2 ≡ true)
 unfolding setsOf words word list
 has-line = (refl, refl)
+
+-- the greatest counter is 3; of the first two rows and columns it is 2, a column's; and of the first two rows 1
+how-many : (filled (setsOf 4 rows) (setsOf 3 columns) 8 ≡ 3) × (filled (setsOf 2 rows) (setsOf 2 columns) 8 ≡ 2) × (filled (setsOf 2 rows) (setsOf 0 columns) 8 ≡ 1)
+unfolding filled setsOf words word list sum
+how-many = (refl, refl, refl)

@@ -1,19 +1,21 @@
--- Laws of the sets of counters: which lines they have, how often they have a line, and where two of them cross. Assumes nothing.
-use Prim.Native.Nat.{ℕ, _+_, _%_, _≤_, _<_, min}
+-- Laws of the sets of counters: which lines they have, how often they have a line, where two of them cross, and how many have a line at all. Assumes nothing.
+use Prim.Native.Nat.{ℕ, zero, suc, _+_, _%_, _≤_, _<_, min, max}
 use mathlib.Core.Path.{_≡_, refl, sym, ap, ap₂, _∙_}
 use mathlib.Core.Bool.{Bool, true, false, not, _&&_, _||_, and-false}
 use mathlib.Core.List.{List}
+use mathlib.Core.Logic.{⊎-elim}
+use native.Mathlib.Numerals.{add-one}
 use native.Mathlib.Omega.{arith}
 use borrow.Author.Tests.{lt-ltb, le-ltb, ltb-true, eq-eqb, ne-eqb, not-true}
 use lib.Dec.{eqb, ltb}
 use lib.ListN.{getD}
-use Rattle.bits.specs.Bits.{num, some, sum, has, word, words}
-use Rattle.bits.proofs.TestLaws.{clash, same-test, and-in, and-left, and-right}
+use Rattle.bits.specs.Bits.{num, some, sum, most, has, word, words}
+use Rattle.bits.proofs.TestLaws.{clash, same-test, lt-or-le, and-in, and-left, and-right}
 use Rattle.bits.proofs.BoundLaws.{some-ext, some-join, sum-ext, sum-below}
 use Rattle.bits.proofs.BitLaws.{has-high, has-word, word-lt, some-has}
 use Rattle.bits.proofs.ByteLaws.{getD-words, has-words, words-below, words-ext}
 use Rattle.rdis.specs.Cells.{flips}
-use Rattle.grid_sets.specs.Sets.{setsOf, times, crossings, odd, someLine}
+use Rattle.grid_sets.specs.Sets.{setsOf, times, crossings, odd, someLine, filled}
 
 -- ---- the lines of a set
 
@@ -95,3 +97,33 @@ odd-flips m n u i j r c h k p q =
 pub odd-past : (rows : List ℕ) (n u i j : ℕ) (c : ℕ → ℕ) → n ≤ j → odd rows (setsOf n c) u i j ≡ false
 unfolding odd
 odd-past rows n u i j c h = rw (crossings-past rows n u i j c h)
+
+-- ---- how many pairs of sets have a line
+
+some-above : (s a b : ℕ) → ltb s a || ltb s b ≡ ltb s (max a b)
+some-above s a b = ⊎-elim
+    (λ l. rw (lt-ltb s a l) (sym (lt-ltb s (max a b) (omega arith))))
+    (λ l. rw (le-ltb s a l) (⊎-elim (λ k. lt-ltb s b k ∙ sym (lt-ltb s (max a b) (omega arith))) (λ k. le-ltb s b k ∙ sym (le-ltb s (max a b) (omega arith))) (lt-or-le s b)))
+    (lt-or-le s a)
+
+-- some counter is above s exactly if the greatest is
+some-most : (n s : ℕ) (f : ℕ → ℕ) → some n (λ t. ltb s (f t)) ≡ ltb s (most n f)
+unfolding some most
+some-most zero s f = sym (le-ltb s 0 (omega arith))
+some-most (suc n) s f = ap (λ t. ltb s (f n) || t) (some-most n s f) ∙ some-above s (f n) (most n f)
+
+-- the greatest of counters that are at most u is how many of the first u pairs have a line
+pub filled-most : (m n u : ℕ) (f : ℕ → ℕ) → u ≤ 8 → most (m + n) f ≤ u → filled (setsOf m f) (setsOf n (λ j. f (m + j))) u ≡ most (m + n) f
+unfolding filled
+filled-most m n u f h l =
+    sum-ext u _ (λ s. num (ltb s (most (m + n) f))) (λ s k. ap num (some-line m n s f (omega arith) ∙ some-most (m + n) s f)) ∙ sum-below u (most (m + n) f) ∙ omega arith
+
+-- ---- pair by pair
+
+pub filled-none : (rows columns : List ℕ) → 0 ≡ filled rows columns 0
+unfolding filled sum
+filled-none rows columns = refl
+
+pub filled-more : (rows columns : List ℕ) (s n : ℕ) → n ≡ filled rows columns s → n + num (someLine rows columns s) ≡ filled rows columns (s + 1)
+unfolding filled sum
+filled-more rows columns s n e = rw add-one (omega (arith, e))

@@ -1,6 +1,6 @@
 -- Counters as sets of lines (rows or columns), a bit for each line: set s of counters has the lines whose counter is above s. So a counter is the number
--- of sets that have its line, and the smaller of two is the number of pairs of sets that have both lines. Neither number depends on the order of the sets:
--- those of a write's levels stand the last level first. Assumes nothing.
+-- of sets that have its line, the smaller of two is the number of pairs of sets that have both lines, and the greatest the number of pairs of which one has a
+-- line. None of these numbers depends on the order of the sets: those of a plan's levels stand the last level first. Assumes nothing.
 use Prim.Native.Nat.{ℕ, _%_}
 use mathlib.Core.Bool.{Bool, not, _&&_}
 use mathlib.Core.List.{List}
@@ -27,3 +27,7 @@ odd rows columns n i j = eqb (crossings rows columns n i j % 2) 1
 -- one of the two sets numbered s has a line
 abbrev pub someLine : List ℕ → List ℕ → ℕ → Bool
 someLine rows columns s = not (eqb (getD rows s 0) 0 && eqb (getD columns s 0) 0)
+
+-- how many of the first n pairs of sets have a line
+unfoldable pub filled : List ℕ → List ℕ → ℕ → ℕ
+filled rows columns n = sum n (λ s. num (someLine rows columns s))

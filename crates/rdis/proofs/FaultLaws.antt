@@ -7,7 +7,8 @@ use native.Mathlib.Omega.{arith}
 use Rattle.bits.proofs.TestLaws.{clash, and-left}
 use Rattle.rdis.specs.Block.{Block, stuck, faulty, stuckCells}
 use Rattle.rdis.specs.Chains.{Cell, Way, turn, Step, Is, HasChain}
-use Rattle.rdis.specs.Theorems.{LevelsUsed, LevelsByFaults}
+use Rattle.rdis.specs.Facts.{LevelsUsed}
+use Rattle.rdis.specs.Theorems.{LevelsByFaults}
 use Rattle.rdis.proofs.Walks.{twice, turns-add, turns-less, turn-turn, colour, way, Walk, chain-walk, walk-chain, prefix, after}
 use Rattle.rdis.proofs.Taking.{same}
 use Rattle.rdis.proofs.LevelLaws.{levels-by-chain}

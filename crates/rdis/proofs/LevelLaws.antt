@@ -12,7 +12,8 @@ use Rattle.bits.proofs.BitLaws.{has-word, word-lt, some-has}
 use Rattle.rdis.specs.Block.{Block}
 use Rattle.rdis.specs.Levels.{Subgrid, whole, takesRow, taken, left, Outcome, masked, unmaskable, none, more, levels, plan}
 use Rattle.rdis.specs.Chains.{HasChain, SomeWrong}
-use Rattle.rdis.specs.Theorems.{RefusedByChain, LevelsByChain, NoChainEmpty}
+use Rattle.rdis.specs.Facts.{LevelsUsed}
+use Rattle.rdis.specs.Theorems.{RefusedByChain, LevelsByChain, OneDepth, NoChainEmpty}
 use Rattle.rdis.proofs.Walks.{twice, twice-is}
 use Rattle.rdis.proofs.Taking.{Long, long-suc, long-zero, long-le, long-whole, some-wrong}
 
@@ -119,6 +120,16 @@ levels-by-chain b k l r c e =
       reached = λ p. longest b l h (l - 1) (omega arith);
       greatest = no-longer b l h;
     }
+
+pub one-depth : OneDepth
+one-depth b k l l′ x y =
+    let p : l ≤ l′ = at-most l l′ x y in
+    let q : l′ ≤ l = at-most l′ l y x in
+    omega arith
+  where
+    at-most : (l l′ : ℕ) → LevelsUsed b k l → LevelsUsed b k l′ → l ≤ l′
+    at-most zero l′ x y = omega arith
+    at-most (suc l) l′ x y = y .greatest (suc l) (omega arith) (x .reached (omega arith))
 
 pub no-chain-empty : NoChainEmpty
 unfolding HasChain

@@ -9,7 +9,7 @@ use Rattle.bits.proofs.BitLaws.{word-ext}
 use Rattle.bits.proofs.ByteLaws.{words-ext}
 use Rattle.rdis.specs.Block.{Block, bit, stuck, differs, faulty}
 use Rattle.rdis.specs.Levels.{Subgrid, takes, takesRow, takesColumn, taken, left, whole, unmaskable, none, more, levels, plan}
-use Rattle.rdis.specs.Cells.{flips, holds, stored}
+use Rattle.rdis.specs.Cells.{flips, holds, stored, misreads}
 use Rattle.rdis.specs.Theorems.{withValues, SoundIgnored}
 
 takes-ext : (n own other : ℕ) (f g : ℕ → ℕ → Bool) (i : ℕ) → ((j : ℕ) → j < n → f i j ≡ g i j) → takes n own other f i ≡ takes n own other g i
@@ -61,11 +61,17 @@ held-cell : (s v v′ x : Bool) → (s ≡ true → v ≡ v′) → cond s v x �
 held-cell true v v′ x h = h refl
 held-cell false v v′ x h = refl
 
+misread-cell : (s f d v v′ : Bool) → (s ≡ true → v ≡ v′) → s && xor (xor f v) d ≡ s && xor (xor f v′) d
+misread-cell true f d v v′ h = ap (λ x. xor (xor f x) d) (h refl)
+misread-cell false f d v v′ h = refl
+
 pub sound-ignored : SoundIgnored
-unfolding faulty differs stored holds
+unfolding faulty differs stored holds misreads
 sound-ignored b v h = record {
   plans = plan-ext (b .rows) (b .columns) (b .data·) (b .mask) (b .values) (b .data·) (b .mask) v
       (λ w i j p q. faulty-cell (stuck b i j) w (bit (b .data·) i j) (bit (b .values) i j) (bit v i j) (h i j p q));
   cells = λ r c. words-ext (b .rows) (b .columns) (holds b r c) (holds (withValues b v) r c)
       (λ i j p q. held-cell (stuck b i j) (bit (b .values) i j) (bit v i j) (xor (flips r c i j) (bit (b .data·) i j)) (h i j p q));
+  wrongs = λ r c. some-ext (b .rows) _ _ (λ i p. some-ext (b .columns) _ _
+      (λ j q. misread-cell (stuck b i j) (flips r c i j) (bit (b .data·) i j) (bit (b .values) i j) (bit v i j) (h i j p q)));
 }

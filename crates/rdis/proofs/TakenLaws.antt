@@ -10,7 +10,8 @@ use Rattle.bits.proofs.TestLaws.{clash}
 use Rattle.rdis.specs.Block.{Block, faulty}
 use Rattle.rdis.specs.Levels.{Subgrid, whole, taken, left, Outcome, masked, unmaskable, none, more, levels, plan}
 use Rattle.rdis.specs.Chains.{Cell, Way, byRow, byColumn, line}
-use Rattle.rdis.specs.Theorems.{Masked, CountsLevels, LevelsCounted, OneCount}
+use Rattle.rdis.specs.Facts.{CountsLevels}
+use Rattle.rdis.specs.Theorems.{Masked, LevelsCounted, OneCount}
 use Rattle.rdis.proofs.Walks.{colour}
 use Rattle.rdis.proofs.Taking.{own, each, In, of-whole, line-taken, line-out, left-in, narrow}
 use Rattle.rdis.proofs.CounterLaws.{tally}

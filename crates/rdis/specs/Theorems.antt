@@ -1,17 +1,17 @@
 -- What is proved of grid blocks, each statement by itself. b is a block, k the levels allowed, l the levels used, r and c the counters of rows
 -- and columns, w a width in bits. Assumes nothing.
-use Prim.Native.Nat.{ℕ, _+_, _-_, _*_, _/_, _%_, _^_, _<_, _≤_}
+use Prim.Native.Nat.{ℕ, _+_, _*_, _/_, _%_, _^_, _<_, _≤_}
 use mathlib.Core.Path.{_≡_}
 use mathlib.Core.Bool.{true, false}
 use mathlib.Core.List.{List}
 use mathlib.Core.Logic.{_↔_}
-use lib.Dec.{eqb}
 use lib.ListN.{length, getD}
 use Rattle.bits.specs.Bits.{has, at, bytes, Below}
-use Rattle.rdis.specs.Block.{Block, Sized, bit, stuck, faulty, wrong, stuckCells, faults}
+use Rattle.rdis.specs.Block.{Block, Sized, bit, stuck, wrong, stuckCells, faults}
 use Rattle.rdis.specs.Levels.{masked, unmaskable, plan}
-use Rattle.rdis.specs.Cells.{flips, stored, reading}
-use Rattle.rdis.specs.Chains.{HasChain, SomeWrong}
+use Rattle.rdis.specs.Cells.{flips, stored, reading, misreads}
+use Rattle.rdis.specs.Chains.{HasChain}
+use Rattle.rdis.specs.Facts.{LevelsUsed, CountsLevels}
 use Rattle.rdis.specs.Packing.{width, bytesFor, inOrder, packed, unpacked, counter, rowCounter, columnCounter, spareClear}
 
 -- a plan with k levels masks the faults of b by l levels, with these counters
@@ -26,28 +26,19 @@ RefusedByChain = (b : Block) (k : ℕ) → (plan b k ≡ unmaskable) ↔ HasChai
 
 -- ---- 2. the levels used
 
--- l is at most k; it is 0 exactly if no cell is wrong; else it is the greatest number with a chain of 2l - 1 cells
-pub record LevelsUsed (b : Block) (k l : ℕ) : Type 0 where
-  pub most : l ≤ k
-  pub none : (l ≡ 0) ↔ (SomeWrong b → ⊥)
-  pub reached : 1 ≤ l → HasChain b (2 * l - 1)
-  pub greatest : (m : ℕ) → 1 ≤ m → HasChain b (2 * m - 1) → m ≤ l
-
--- so it is where the plan masks the faults
+-- where the plan masks the faults, they are as chains say
 abbrev pub LevelsByChain : Type 0
 LevelsByChain = (b : Block) (k l : ℕ) (r c : ℕ → ℕ) → Masked b k l r c → LevelsUsed b k l
+
+-- and chains say it of one number alone
+abbrev pub OneDepth : Type 0
+OneDepth = (b : Block) (k l l′ : ℕ) → LevelsUsed b k l → LevelsUsed b k l′ → l ≡ l′
 
 -- a chain has a cell
 abbrev pub NoChainEmpty : Type 0
 NoChainEmpty = (b : Block) → HasChain b 0 → ⊥
 
--- r and c count the levels that took a line: level t, from 0, took it exactly if all levels before it did, and it holds a stuck cell whose line across
--- they all took too, and which is wrong if t is even and right if t is odd
-pub record CountsLevels (b : Block) (r c : ℕ → ℕ) : Type 0 where
-  pub rows : (i t : ℕ) → i < b .rows → (t < r i) ↔ ((t ≤ r i) × ((j : ℕ) × (j < b .columns) × (t ≤ c j) × (faulty b (eqb (t % 2) 0) i j ≡ true)))
-  pub columns : (j t : ℕ) → j < b .columns → (t < c j) ↔ ((t ≤ c j) × ((i : ℕ) × (i < b .rows) × (t ≤ r i) × (faulty b (eqb (t % 2) 0) i j ≡ true)))
-
--- the counters of a plan do, and no others
+-- the counters of a plan count the levels that took a line, and no others do
 abbrev pub LevelsCounted : Type 0
 LevelsCounted = (b : Block) (k l : ℕ) (r c : ℕ → ℕ) → Masked b k l r c → CountsLevels b r c
 
@@ -75,6 +66,14 @@ WrongWhereFlipped =
 -- so the stored cells read as the data
 abbrev pub ReadBack : Type 0
 ReadBack = (b : Block) (k l : ℕ) (r c : ℕ → ℕ) → Masked b k l r c → Sized (b .rows) (b .columns) (b .data·) → reading (b .rows) (b .columns) r c (stored b r c) ≡ b .data·
+
+-- cells that are stored by any counters read as the data exactly where no stuck cell reads wrong
+abbrev pub StoredReads : Type 0
+StoredReads = (b : Block) (r c : ℕ → ℕ) → Sized (b .rows) (b .columns) (b .data·) → (misreads b r c ≡ false) ↔ (reading (b .rows) (b .columns) r c (stored b r c) ≡ b .data·)
+
+-- by those of a plan none does
+abbrev pub PlanReads : Type 0
+PlanReads = (b : Block) (k l : ℕ) (r c : ℕ → ℕ) → Masked b k l r c → misreads b r c ≡ false
 
 -- a store leaves a stuck cell as it is, by any counters
 abbrev pub StuckHeld : Type 0
@@ -119,6 +118,10 @@ CountersBack =
 abbrev pub CountersAtMost : Type 0
 CountersAtMost = (b : Block) (k l : ℕ) (r c : ℕ → ℕ) → Masked b k l r c → ((i : ℕ) → r i ≤ l) × ((j : ℕ) → c j ≤ l)
 
+-- and some row's is that, if there is a level
+abbrev pub LevelsReached : Type 0
+LevelsReached = (b : Block) (k l : ℕ) (r c : ℕ → ℕ) → Masked b k l r c → 1 ≤ l → (i : ℕ) × (i < b .rows) × (r i ≡ l)
+
 -- the levels allowed fit their width
 abbrev pub WidthHolds : Type 0
 WidthHolds = (k : ℕ) → k ≤ 3 → k < 2 ^ width k
@@ -136,10 +139,11 @@ ReadBackPacked =
 abbrev pub withValues : Block → List ℕ → Block
 withValues b v = record { rows = b .rows; columns = b .columns; data· = b .data·; mask = b .mask; values = v }
 
--- two blocks with the same plan, and the same cells by any counters
+-- two blocks with the same plan and, by any counters, the same cells; in both or in neither a stuck cell then reads wrong
 pub record SameWrite (b d : Block) : Type 0 where
   pub plans : (k : ℕ) → plan b k ≡ plan d k
   pub cells : (r c : ℕ → ℕ) → stored b r c ≡ stored d r c
+  pub wrongs : (r c : ℕ → ℕ) → misreads b r c ≡ misreads d r c
 
 -- so are blocks whose values differ at sound cells alone
 abbrev pub SoundIgnored : Type 0

@@ -1,4 +1,4 @@
-// The refusals of document 01, by name. 0 is the number of an accepted call.
+// The refusals of documents 01 and 02, by name. 0 is the number of an accepted call.
 pub const ACCEPTED: usize = 0;
 // n, the rows, the columns or K lie outside their range.
 pub const OUT_OF_RANGE: usize = 1;
@@ -14,3 +14,5 @@ pub const SAME_POINTER: usize = 5;
 pub const NO_ENTRY_LEFT: usize = 6;
 // The faults of a grid cannot be masked for this data.
 pub const UNMASKABLE: usize = 7;
+// By the counters that a store is lent, a stuck cell would read wrong.
+pub const MISREAD: usize = 13;

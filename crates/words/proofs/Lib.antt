@@ -1,1 +1,2 @@
 pub mod LowBitsLaws
+pub mod CopyLaws

@@ -5,6 +5,7 @@ use borrow.Author.Needs.{needs}
 use lib.ListN.{length}
 use Rattle.bits.specs.Bits.{words}
 use Rattle.bits.proofs.ByteLaws.{length-words}
+use Rattle.words.proofs.CopyLaws.{as-long}
 use Rattle.grid_patterns.specs.Promises.{invertedBy}
 use Rattle.grid_patterns.proofs.FillLaws.{none-inverted, can-flip, invert-more}
 use Rattle.grid_patterns.proofs.fill.Statement.{statement}
@@ -27,11 +28,11 @@ fill-spec =
     Inv-loop
     μ-loop
     -- copy-requires
-    (λ c κs. c .before .before .before .pre .2)
+    (λ c κs. search needs)
     -- low-bits-requires
     (λ c κs. search needs)
     -- loop-holds
-    (λ c. (c .before .before .before .copy .ensures ∙ none-inverted _ _ _ (λ i. c .before .before .before .before .before .before .shared-slice-known .given i .fits), omega arith))
+    (λ c. (c .before .before .before .copy .ensures ∙ sym (as-long _ _ _ _ (c .before .before .before .before .before .before .before .pre .2)) ∙ none-inverted _ _ _ (λ i. c .before .before .before .before .before .before .shared-slice-known .given i .fits), omega arith))
     -- mul-flip, element-copy-out-flip, mul-flip-2, element-copy-out-flip-2
     (λ c. omega arith) (λ c. omega arith) (λ c. omega arith) (λ c. omega arith)
     -- flip-requires

@@ -11,10 +11,12 @@ answer-spec =
     (λ c κs. whole-by _ (c .before .match .keys1) (c .before .before .before .before .pre))
     -- pointer-read-requires
     (λ c κs. whole-by _ (c .before .match .keys2) (c .before .before .before .before .pre))
-    -- grid-write-requires
+    -- grid-plan-requires
     (λ c κs. whole-by _ (c .before .match .keys3) (c .before .before .before .before .pre))
     -- grid-read-requires
     (λ c κs. whole-by _ (c .before .match .keys4) (c .before .before .before .before .pre))
+    -- grid-store-requires
+    (λ c κs. whole-by _ (c .before .match .keys5) (c .before .before .before .before .pre))
     -- same-length
     (λ c. c .before .before .pointer-write .kept .1 .0)
     -- returns
@@ -24,12 +26,16 @@ answer-spec =
     -- returns-2
     (λ c. line-by _ (c .before .before .before .before .match .keys2) (c .before .before .pointer-read .ensures))
     -- same-length-3
-    (λ c. c .before .before .grid-write .kept .1 .0)
+    (λ c. c .before .before .grid-plan .kept .1 .0)
     -- returns-3
-    (λ c. line-by _ (c .before .before .before .before .match .keys3) (c .before .before .grid-write .ensures))
+    (λ c. line-by _ (c .before .before .before .before .match .keys3) (c .before .before .grid-plan .ensures))
     -- same-length-4
     (λ c. c .before .before .grid-read .kept .1 .0)
     -- returns-4
     (λ c. line-by _ (c .before .before .before .before .match .keys4) (c .before .before .grid-read .ensures))
+    -- same-length-5
+    (λ c. c .before .before .grid-store .kept .1 .0)
     -- returns-5
-    (λ c. let t = c .match .rest in absurd (not-whole _ _ (no-form _ (t .0 .0 .0 .1) (t .0 .0 .1) (t .0 .1) (t .1)) (c .before .before .before .pre))))
+    (λ c. line-by _ (c .before .before .before .before .match .keys5) (c .before .before .grid-store .ensures))
+    -- returns-6
+    (λ c. let t = c .match .rest in absurd (not-whole _ _ (no-form _ (t .0 .0 .0 .0 .1) (t .0 .0 .0 .1) (t .0 .0 .1) (t .0 .1) (t .1)) (c .before .before .before .pre))))

@@ -1,0 +1,120 @@
+-- What a code proof cites at each return of a plan: from the tests' values and the sets that the levels took to the whole promise. Assumes nothing.
+use Prim.Native.Nat.{ℕ, _+_, _≤_}
+use mathlib.Core.Path.{_≡_, refl, sym, ap, ap₂, subst, _∙_}
+use mathlib.Core.Bool.{true, false, not, cond}
+use mathlib.Core.List.{List, _++_}
+use native.Mathlib.Omega.{arith}
+use lib.ListN.{length}
+use Rattle.bits.proofs.TestLaws.{clash}
+use Rattle.bits.proofs.BoundLaws.{list-ext}
+use Rattle.rdis.specs.Block.{Block, faults}
+use Rattle.rdis.specs.Levels.{Outcome, masked, unmaskable, plan}
+use Rattle.rdis.specs.Packing.{width, inOrder, packed}
+use Rattle.rdis.proofs.PackingLaws.{width-holds}
+use Rattle.grid_sets.specs.Sets.{times}
+use Rattle.grid_counters.specs.Promises.{packable, Pack}
+use Rattle.grid_counters.proofs.PromiseLaws.{can-pack}
+use Rattle.grid_promises.specs.Calls.{inRange, block, planSized, planPast, planNumber}
+use Rattle.grid_promises.specs.Refusals.{PlanLengths}
+use Rattle.grid_promises.specs.Promises.{Plan}
+use Rattle.grid_promises.specs.declared.Answer.{Answer}
+use Rattle.grid_promises.proofs.RefusalLaws.{in-range, plan-sized}
+use Rattle.grid_promises.proofs.PlanDemands.{plan-demands}
+use Rattle.grid_checks.specs.Numbers.{judged, planJudged}
+use Rattle.grid.specs.declared.levels.Taken.{Taken}
+use Rattle.grid.specs.Steps.{blockOf, PlanSized, Counts, Follows}
+use Rattle.grid.proofs.Returns.{stands, passes, Refuses}
+
+refused-plan : (b : Block) (k : ℕ) (counters : List ℕ) (a : Answer) (x : ℕ) → (x ≡ 0 → ⊥) → x ≡ planNumber b k (length counters) → Refuses x a → Plan b k counters a counters
+refused-plan b k counters a x l e (n, u, v) =
+    plan-demands b k counters a counters (record {
+      number = n ∙ e;
+      untouched = λ _. (u, v, refl);
+      countersAre = λ z. absurd (l (sym n ∙ z));
+      levelsAre = λ z. absurd (l (sym n ∙ z));
+      faultsAre = λ z. absurd (l (sym n ∙ z));
+    })
+
+-- ---- numbers and lengths
+
+module _ (m n k : ℕ) (d mask values counters : List ℕ) (x : ℕ) (e : x ≡ planJudged m n k (length d) (length mask) (length values) (length counters)) where
+  abbrev b : Block
+  b = block m n d mask values
+
+  by-tests : x ≡ cond (not (inRange m n k)) 1 (cond (planSized b k (length counters)) 0 2)
+  unfolding judged
+  by-tests = e
+
+  pub plan-judged : (a : Answer) → (x ≡ 0 → ⊥) → Refuses x a → Plan b k counters a counters
+  unfolding planNumber
+  plan-judged a h r = refused-plan b k counters a x h (by-tests ∙ stands (inRange m n k) (planSized b k (length counters)) _ (λ z. h (by-tests ∙ z))) r
+
+  module _ (z : x ≡ 0) where
+    right : (inRange m n k ≡ true) × (planSized b k (length counters) ≡ true)
+    right = passes (inRange m n k) (planSized b k (length counters)) (sym by-tests ∙ z)
+
+    plan-lengths : PlanLengths b k (length counters)
+    plan-lengths = plan-sized b k (length counters) .0 (right .1)
+
+    pub plan-goes-on : PlanSized n k d mask values counters
+    plan-goes-on =
+        let l = plan-lengths in
+        let w = l .dataWords in
+        record { ranges = rw w (right .0); masks = l .maskWords ∙ sym w; stuckAt = l .valueWords ∙ sym w; sizes = rw w (l .counterBytes) }
+
+    pub plan-comes-back : (a : Answer) (counters′ : List ℕ) → Plan (blockOf n d mask values) k counters a counters′ → Plan b k counters a counters′
+    plan-comes-back a counters′ p = subst (λ y. Plan (block y n d mask values) k counters a counters′) (plan-lengths .dataWords) p
+
+-- ---- how the levels ended
+
+lost : (t : Taken) (o : Outcome) → Follows t o → t .ended ≡ false → o ≡ unmaskable
+lost t (masked l r c) f e = clash (f .ended) e
+lost t unmaskable f e = refl
+
+record Found (t : Taken) (o : Outcome) : Type 0 where
+  l : ℕ
+  r : ℕ → ℕ
+  c : ℕ → ℕ
+  masks : o ≡ masked l r c
+  counts : Counts t l r c
+
+found : (t : Taken) (o : Outcome) → Follows t o → t .ended ≡ true → Found t o
+found t (masked l r c) f e = record { l = l; r = r; c = c; masks = refl; counts = f }
+found t unmaskable f e = clash e f
+
+module _ (n k : ℕ) (d mask values counters : List ℕ) (s : PlanSized n k d mask values counters) (a : Answer) where
+  abbrev own : Block
+  own = blockOf n d mask values
+
+  lengths-right : planSized own k (length counters) ≡ true
+  lengths-right = plan-sized own k (length counters) .1 (record { dataWords = refl; maskWords = s .masks; valueWords = s .stuckAt; counterBytes = s .sizes })
+
+  pub plan-past : planPast own ≡ true → Refuses 3 a → Plan own k counters a counters
+  unfolding planNumber
+  plan-past h r = refused-plan own k counters a 3 (λ z. omega arith) (rw (s .ranges, lengths-right, h)) r
+
+  module _ (inside : planPast own ≡ false) (t : Taken) (h : (t .used ≤ k) × Follows t (plan own k)) where
+    pub plan-unmaskable : t .ended ≡ false → Refuses 7 a → Plan own k counters a counters
+    unfolding planNumber
+    plan-unmaskable e r = refused-plan own k counters a 7 (λ z. omega arith) (rw (s .ranges, lengths-right, inside, lost t (plan own k) (h .1) e)) r
+
+    -- there is room for the counters of the levels that were used
+    has-room : packable k (length d) n (t .used) (length counters) ≡ true
+    has-room =
+        let r = in-range (length d) n k .0 (s .ranges) in
+        can-pack k (length d) n (t .used) (length counters) (omega (arith, h .0, width-holds k (r .levels .1))) (record { rows = r .rows .1; columns = r .columns .1; size = s .sizes })
+
+    pub plan-done : (counters′ : List ℕ) → t .ended ≡ true → a .number ≡ 0 → a .levels ≡ t .used → a .faults ≡ faults (length mask) mask
+        → Pack k (length d) n (t .used) (t .rows) (t .columns) counters counters′ → Plan own k counters a counters′
+    unfolding planNumber
+    plan-done counters′ e z x y p =
+        let f = found t (plan own k) (h .1) e in
+        let counted : inOrder (length d) n (times (t .rows) (t .used)) (times (t .columns) (t .used)) ≡ inOrder (length d) n (f .r) (f .c) =
+        ap₂ _++_ (list-ext (length d) (times (t .rows) (t .used)) (f .r) (λ i _. f .counts .rows i)) (list-ext n (times (t .columns) (t .used)) (f .c) (λ j _. f .counts .columns j)) in
+        plan-demands own k counters a counters′ (record {
+          number = z ∙ rw (s .ranges, lengths-right, inside, f .masks);
+          untouched = λ l. absurd (omega arith);
+          countersAre = λ _. rw (f .masks) (p .bytes has-room ∙ ap (packed (width k)) counted);
+          levelsAre = λ _. rw (f .masks) (x ∙ f .counts .used);
+          faultsAre = λ _. y ∙ ap (λ m. faults m mask) (s .masks);
+        })

@@ -1,0 +1,61 @@
+use mathlib.Core.Path.{refl}
+use native.Mathlib.Omega.{arith}
+use borrow.Author.Needs.{needs}
+use Rattle.grid_promises.specs.Refusals.{InRange}
+use Rattle.grid_promises.proofs.RefusalLaws.{in-range}
+use Rattle.grid.proofs.StoreLaws.{apart-rows, store-refused, store-misread, store-done}
+use Rattle.grid.proofs.store_by.Statement.{statement}
+use Rattle.grid.proofs.store_by.Tie as tie
+
+pub store-by-spec : {M : Type 1} → statement M
+store-by-spec =
+    tie.close
+    (tie.spec
+    -- show-requires
+    (λ c κs. search needs)
+    -- refused-requires
+    (λ c κs. search needs)
+    -- same-length
+    (λ c. search needs)
+    -- returns
+    (λ c.
+    let s = c .before .before .before .before .before .before .before .before .before .before .before .before .before in
+    let a = s .args in
+    let i = c .before .before .before .before .before .show in
+    store-refused (a .columns) (a .k) (a .«data» .now) (a .mask .now) (a .values .now) (a .counters .now) (a .cells .now) (s .pre .0) (s .pre .1 .0) _ _ (s .pre .1 .1) (i .result) (i .ensures)
+    (c .refused .result) (c .before .if1 .taken) (c .refused .ensures))
+    -- misreads-requires
+    (λ c κs.
+    let s = c .before .before .before .before .before .before .before .before .before .before .before .before .before in
+    let a = s .args in
+    let i = c .before .before .before .before .before .show in
+    apart-rows (a .columns) (a .k) (a .«data» .now) (a .mask .now) (a .values .now) (a .counters .now) (a .cells .now) (s .pre .0) (s .pre .1 .0) _ _ (s .pre .1 .1) (i .result) (i .ensures) (c .before .if1 .left))
+    -- refused-requires-2
+    (λ c κs. search needs)
+    -- same-length-2
+    (λ c. search needs)
+    -- returns-2
+    (λ c.
+    let s = c .before .before .before .before .before .before .before .before .before .before .before .before .before .before .before .before in
+    let a = s .args in
+    let i = c .before .before .before .before .before .before .before .before .show in
+    store-misread (a .columns) (a .k) (a .«data» .now) (a .mask .now) (a .values .now) (a .counters .now) (a .cells .now) (s .pre .0) (s .pre .1 .0) _ _ (s .pre .1 .1) (i .result) (i .ensures)
+    (c .before .before .before .before .if1 .left) _ (c .before .before .misreads .ensures) (c .refused2 .result) (c .before .if2 .taken) (c .refused2 .ensures))
+    -- copy-requires
+    (λ c κs. search needs)
+    -- stuck-cells-requires
+    (λ c κs.
+    let p = c .before .before .before .before .before .before .before .before .before .before .before .before .before .before .before .before .before .before .before .before .pre .0 .planned in
+    let r : InRange _ _ _ = in-range _ _ _ .0 (p .ranges) in
+    omega (arith, p .masks, r .rows .1))
+    -- same-length-3
+    (λ c. search needs)
+    -- same-length-4
+    (λ c. search needs)
+    -- returns-3
+    (λ c.
+    let s = c .before .before .before .before .before .before .before .before .before .before .before .before .before .before .before .before .before .before .before .before .before in
+    let a = s .args in
+    let i = c .before .before .before .before .before .before .before .before .before .before .before .before .before .show in
+    store-done (a .columns) (a .k) (a .«data» .now) (a .mask .now) (a .values .now) (a .counters .now) (a .cells .now) (s .pre .0) (s .pre .1 .0) _ _ (s .pre .1 .1) (i .result) (i .ensures)
+    (c .before .before .before .before .before .before .before .before .before .if1 .left) _ (c .before .before .before .before .before .before .before .misreads .ensures) _ _ (c .before .before .before .before .before .before .if2 .left) refl refl (c .stuck-cells .ensures) (c .before .before .before .copy .ensures)))

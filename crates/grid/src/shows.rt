@@ -1,0 +1,83 @@
+// What counters show of cells, whoever made them: how a read gets the data, and a store the bits that its cells have to hold.
+use grid_sets::LEVELS;
+use refusals::ACCEPTED;
+use refusals::BIT_PAST_END;
+ghost use mathlib.Core.Path.{_≡_};
+ghost use Prim.Native.Nat.{_≤_};
+ghost use lib.ListN.{length};
+ghost use Rattle.bits.specs.Bits.{num};
+ghost use Rattle.grid_sets.specs.Sets.{filled};
+ghost use Rattle.grid.specs.Steps.{ShowSized, Shows};
+
+// 0 or the number of the refusal, and the greatest counter.
+pub struct Shown {
+    pub number: usize,
+    pub levels: usize,
+}
+
+fn one_if(t: bool) -> usize
+    ensures { λ r. ⌜ r ≡ num t ⌝ }
+{
+    if t { 1 } else { 0 }
+}
+
+// The greatest counter, where none is above `used`: how many of the first `used` pairs of sets have a line.
+fn depth(rows: &[u64; LEVELS], columns: &[u64; LEVELS], used: usize) -> usize
+    requires { ⌜ used ≤ 8 ⌝ }
+    ensures { λ r. ⌜ r ≡ filled (now (rows .entry)) (now (columns .entry)) used ⌝ }
+{
+    let mut n = 0;
+    let mut s = 0;
+    while s < used {
+        n += one_if(!((rows[s] == 0) & (columns[s] == 0)));
+        s += 1;
+    }
+    n
+}
+
+// A read, with the greatest counter.
+pub fn show(
+    rows: usize,
+    columns: usize,
+    k: usize,
+    cells: &[u64],
+    counters: &[u8],
+    out: &mut [u64],
+) -> Shown
+    ensures { λ r. ⌜ Shows rows columns k (now (cells .entry)) (now (counters .entry)) (now (out .entry)) r (now (out .exit)) ⌝ }
+{
+    let number = grid_checks::read_number(rows, columns, k, cells.len(), counters.len(), out.len());
+    if number != ACCEPTED {
+        return Shown { number, levels: 0 };
+    }
+    show_sized(columns, k, cells, counters, out)
+}
+
+// That of numbers in range and buffers that are as long as they should be.
+fn show_sized(columns: usize, k: usize, cells: &[u64], counters: &[u8], out: &mut [u64]) -> Shown
+    requires { ⌜ ShowSized columns k (now cells) (now counters) (now out) ⌝ }
+    ensures { λ r. ⌜ Shows (length (now (cells .entry))) columns k (now (cells .entry)) (now (counters .entry)) (now (out .entry)) r (now (out .exit)) ⌝ }
+{
+    if !grid_checks::within(cells, columns) {
+        return Shown {
+            number: BIT_PAST_END,
+            levels: 0,
+        };
+    }
+    let c = grid_counters::unpack(k, cells.len(), columns, counters);
+    if c.number != ACCEPTED {
+        return Shown {
+            number: c.number,
+            levels: 0,
+        };
+    }
+    // An array in a field is lent by a variable.
+    let row_sets = c.rows;
+    let column_sets = c.columns;
+    // No counter is above K, so the first K pairs of sets say all of them.
+    grid_patterns::invert(cells, &row_sets, &column_sets, k, out);
+    Shown {
+        number: ACCEPTED,
+        levels: depth(&row_sets, &column_sets, k),
+    }
+}

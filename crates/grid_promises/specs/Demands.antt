@@ -1,0 +1,90 @@
+-- What is demanded of the public functions: facts about the arguments and what is left, a field each. They cite no computed number, no plan and no list of
+-- cells or counters, and they alone leave one answer (Theorems.antt). Assumes nothing.
+use Prim.Native.Nat.{ℕ, _+_, _*_, _<_, _≤_}
+use mathlib.Core.Path.{_≡_}
+use mathlib.Core.Bool.{true, false}
+use mathlib.Core.List.{List}
+use mathlib.Core.Logic.{_↔_}
+use lib.ListN.{length}
+use Rattle.bits.specs.Bits.{Below}
+use Rattle.bits.specs.Lowest.{Lowest}
+use Rattle.rdis.specs.Block.{Block, Sized, bit, stuck, stuckCells}
+use Rattle.rdis.specs.Chains.{HasChain}
+use Rattle.rdis.specs.Facts.{LevelsUsed, CountsLevels}
+use Rattle.rdis.specs.Packing.{width, bytesFor}
+use Rattle.grid_promises.specs.Refusals.{Spare, Held, Misread, inverted, ReadRefused, PlanRefused, StoreRefused}
+use Rattle.grid_promises.specs.declared.ReadAnswer.{ReadAnswer}
+use Rattle.grid_promises.specs.declared.Answer.{Answer}
+
+-- ---- a read
+
+-- of m rows and n columns at K = k: lent `out`, which holds `after` at the end
+pub record ReadDemands (m n k : ℕ) (cells counters out : List ℕ) (answer : ReadAnswer) (after : List ℕ) : Type 0 where
+  -- the lowest refusal that applies, or 0 where none does
+  pub lowest : Lowest (ReadRefused m n k cells counters (length out)) (answer .number)
+  -- a refusal leaves the output as it was
+  pub untouched : 0 < answer .number → after ≡ out
+  -- accepted: a word a row, with no bit past the last column
+  pub inside : answer .number ≡ 0 → Sized m n after
+  -- each cell by itself: the row's counter is among the first m, the column's after them
+  pub shows : answer .number ≡ 0 → (i j x y : ℕ) → i < m → j < n → Held (width k) counters i x → Held (width k) counters (m + j) y
+      → bit after i j ≡ inverted x y (bit cells i j)
+
+-- ---- a plan
+
+-- a refusal counts nothing and leaves the buffer as it was
+abbrev pub Untouched : Answer → List ℕ → List ℕ → Type 0
+Untouched answer old new = 0 < answer .number → (answer .levels ≡ 0) × (answer .faults ≡ 0) × (new ≡ old)
+
+-- the bytes of n counters of w bits: so many as they need, and no spare bit is 1
+pub record WellFormed (w n : ℕ) (bs : List ℕ) : Type 0 where
+  pub size : length bs ≡ bytesFor w n
+  pub bytes : Below 256 bs
+  pub clear : Spare w n bs → ⊥
+
+-- the bytes hold r as the counters of m rows, and after them c as those of n columns
+pub record HeldLines (w m n : ℕ) (bs : List ℕ) (r c : ℕ → ℕ) : Type 0 where
+  pub rows : (i : ℕ) → i < m → Held w bs i (r i)
+  pub columns : (j : ℕ) → j < n → Held w bs (m + j) (c j)
+
+-- of the block b at K = k: lent `counters`, which hold `counters′` at the end
+pub record PlanDemands (b : Block) (k : ℕ) (counters : List ℕ) (answer : Answer) (counters′ : List ℕ) : Type 0 where
+  -- the lowest refusal that applies, or 0 where none does
+  pub lowest : Lowest (PlanRefused b k (length counters)) (answer .number)
+  pub untouched : Untouched answer counters counters′
+  -- where none of 1, 2 and 3 applies: 7 exactly if there is a chain of 2K + 1 cells
+  pub unmaskable : ((x : ℕ) → x < 7 → PlanRefused b k (length counters) x → ⊥) → (answer .number ≡ 7) ↔ HasChain b (2 * k + 1)
+  -- L is at most K, the greatest number with a chain of 2L - 1 cells, and 0 exactly where no cell is wrong
+  pub deepest : answer .number ≡ 0 → LevelsUsed b k (answer .levels)
+  -- F counts the stuck cells one by one, and L takes at least 2L - 1 of them
+  pub everyFault : answer .number ≡ 0 → answer .faults ≡ stuckCells (b .rows) (b .columns) (b .mask)
+  pub fewLevels : answer .number ≡ 0 → 2 * answer .levels ≤ answer .faults + 1
+  -- the counters that the bytes hold say of every line how many levels took it
+  pub wellFormed : answer .number ≡ 0 → WellFormed (width k) (b .rows + b .columns) counters′
+  pub counted : answer .number ≡ 0 → (r c : ℕ → ℕ) → HeldLines (width k) (b .rows) (b .columns) counters′ r c → CountsLevels b r c
+
+-- ---- a store
+
+-- x is the greatest of the first n counters of w bits that the bytes hold: some line has it, and none a greater one
+pub record Greatest (w n : ℕ) (bs : List ℕ) (x : ℕ) : Type 0 where
+  pub reached : (t : ℕ) × (t < n) × Held w bs t x
+  pub exceeded : (t y : ℕ) → t < n → Held w bs t y → y ≤ x
+
+-- of the block b at K = k by these counters, whoever made them: lent `cells`, which hold `cells′` at the end
+pub record StoreDemands (b : Block) (k : ℕ) (counters cells : List ℕ) (answer : Answer) (cells′ : List ℕ) : Type 0 where
+  -- the lowest refusal that applies, or 0 where none does
+  pub lowest : Lowest (StoreRefused b k counters (length cells)) (answer .number)
+  pub untouched : Untouched answer cells cells′
+  -- where none of 1 to 4 applies: 13 exactly if some stuck cell would read wrong
+  pub misread : ((x : ℕ) → x < 13 → StoreRefused b k counters (length cells) x → ⊥) → (answer .number ≡ 13) ↔ Misread b k counters
+  -- L is the greatest counter
+  pub deepest : answer .number ≡ 0 → Greatest (width k) (b .rows + b .columns) counters (answer .levels)
+  -- F counts the stuck cells one by one
+  pub everyFault : answer .number ≡ 0 → answer .faults ≡ stuckCells (b .rows) (b .columns) (b .mask)
+  -- a word a row, with no bit past the last column
+  pub inside : answer .number ≡ 0 → Sized (b .rows) (b .columns) cells′
+  -- a stuck cell holds its stuck value
+  pub held : answer .number ≡ 0 → (i j : ℕ) → i < b .rows → j < b .columns → stuck b i j ≡ true → bit cells′ i j ≡ bit (b .values) i j
+  -- a sound cell holds its data bit, inverted where the smaller counter is odd
+  pub sound : answer .number ≡ 0 → (i j x y : ℕ) → i < b .rows → j < b .columns → stuck b i j ≡ false → Held (width k) counters i x
+      → Held (width k) counters (b .rows + j) y → bit cells′ i j ≡ inverted x y (bit (b .data·) i j)

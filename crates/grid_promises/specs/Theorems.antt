@@ -1,0 +1,103 @@
+-- What is proved of the promises themselves, of whatever code keeps them. Assumes nothing.
+use Prim.Native.Nat.{ℕ, _<_}
+use mathlib.Core.Path.{_≡_}
+use mathlib.Core.Bool.{true}
+use mathlib.Core.List.{List}
+use mathlib.Core.Logic.{_↔_}
+use lib.ListN.{length}
+use Rattle.rdis.specs.Block.{Block, bit, stuck}
+use Rattle.rdis.specs.Theorems.{withValues}
+use Rattle.grid_promises.specs.Refusals.{Past}
+use Rattle.grid_promises.specs.Demands.{ReadDemands, PlanDemands, StoreDemands}
+use Rattle.grid_promises.specs.Promises.{ReadExactly, Read, PlanExactly, Plan, StoreExactly, Store}
+use Rattle.grid_promises.specs.declared.ReadAnswer.{ReadAnswer}
+use Rattle.grid_promises.specs.declared.Answer.{Answer}
+
+-- ---- no second answer: two calls with the same arguments end the same
+
+abbrev pub OneRead : Type 0
+OneRead =
+    (m n k : ℕ) (cells counters out : List ℕ) (a a′ : ReadAnswer) (x x′ : List ℕ)
+    → ReadExactly m n k cells counters out a x → ReadExactly m n k cells counters out a′ x′ → (a ≡ a′) × (x ≡ x′)
+
+abbrev pub OnePlan : Type 0
+OnePlan =
+    (b : Block) (k : ℕ) (counters : List ℕ) (a a′ : Answer) (x x′ : List ℕ)
+    → PlanExactly b k counters a x → PlanExactly b k counters a′ x′ → (a ≡ a′) × (x ≡ x′)
+
+abbrev pub OneStore : Type 0
+OneStore =
+    (b : Block) (k : ℕ) (counters cells : List ℕ) (a a′ : Answer) (x x′ : List ℕ)
+    → StoreExactly b k counters cells a x → StoreExactly b k counters cells a′ x′ → (a ≡ a′) × (x ≡ x′)
+
+-- ---- nor one that keeps the demands alone: who believes only them needs no computed part
+
+abbrev pub OneReadByDemands : Type 0
+OneReadByDemands =
+    (m n k : ℕ) (cells counters out : List ℕ) (a a′ : ReadAnswer) (x x′ : List ℕ)
+    → ReadDemands m n k cells counters out a x → ReadDemands m n k cells counters out a′ x′ → (a ≡ a′) × (x ≡ x′)
+
+abbrev pub OnePlanByDemands : Type 0
+OnePlanByDemands =
+    (b : Block) (k : ℕ) (counters : List ℕ) (a a′ : Answer) (x x′ : List ℕ)
+    → PlanDemands b k counters a x → PlanDemands b k counters a′ x′ → (a ≡ a′) × (x ≡ x′)
+
+abbrev pub OneStoreByDemands : Type 0
+OneStoreByDemands =
+    (b : Block) (k : ℕ) (counters cells : List ℕ) (a a′ : Answer) (x x′ : List ℕ)
+    → StoreDemands b k counters cells a x → StoreDemands b k counters cells a′ x′ → (a ≡ a′) × (x ≡ x′)
+
+-- ---- a plan, then a store, then a read
+
+-- how a store ends that is lent what an accepted plan p left: answer s, and cells that the counters read as the data
+pub record PlanKept (b : Block) (k : ℕ) (counters : List ℕ) (p s : Answer) (cells′ : List ℕ) : Type 0 where
+  -- it is accepted, with the plan's L and F
+  pub accepted : s ≡ p
+  -- a stuck cell holds its stuck value
+  pub held : (i j : ℕ) → i < b .rows → j < b .columns → stuck b i j ≡ true → bit cells′ i j ≡ bit (b .values) i j
+  -- any read of them is accepted and gives the data
+  pub readsBack : (out after : List ℕ) (r : ReadAnswer) → length out ≡ b .rows → ReadDemands (b .rows) (b .columns) k cells′ counters out r after
+      → (r .number ≡ 0) × (after ≡ b .data·)
+
+-- so it ends with any cells of the right length, where the sizes, K, data, mask and values are the plan's
+abbrev pub PlanThenStore : Type 0
+PlanThenStore =
+    (b : Block) (k : ℕ) (old counters cells cells′ : List ℕ) (p s : Answer) → PlanDemands b k old p counters → p .number ≡ 0 → length cells ≡ b .rows
+    → StoreDemands b k counters cells s cells′ → PlanKept b k counters p s cells′
+
+-- ---- what does not count
+
+-- of a read's output only the length: reads into others of that length answer the same and, if accepted, fill them the same
+abbrev pub OutputMeasured : Type 0
+OutputMeasured =
+    (m n k : ℕ) (cells counters out out′ : List ℕ) (a a′ : ReadAnswer) (x x′ : List ℕ)
+    → length out ≡ length out′ → Read m n k cells counters out a x → Read m n k cells counters out′ a′ x′ → (a ≡ a′) × (a .number ≡ 0 → x ≡ x′)
+
+-- of a plan's old counters only the length
+abbrev pub OldCountersMeasured : Type 0
+OldCountersMeasured =
+    (b : Block) (k : ℕ) (counters counters₀ : List ℕ) (a a′ : Answer) (x x′ : List ℕ)
+    → length counters ≡ length counters₀ → Plan b k counters a x → Plan b k counters₀ a′ x′ → (a ≡ a′) × (a .number ≡ 0 → x ≡ x′)
+
+-- of a store's old cells only the length
+abbrev pub OldCellsMeasured : Type 0
+OldCellsMeasured =
+    (b : Block) (k : ℕ) (counters cells cells₀ : List ℕ) (a a′ : Answer) (x x′ : List ℕ)
+    → length cells ≡ length cells₀ → Store b k counters cells a x → Store b k counters cells₀ a′ x′ → (a ≡ a′) × (a .number ≡ 0 → x ≡ x′)
+
+-- values v in place of the block's, of the same length, with bits past the last column where those have any, that agree with them at the stuck cells
+pub record SameWhereStuck (b : Block) (v : List ℕ) : Type 0 where
+  pub size : length v ≡ length (b .values)
+  pub pastToo : Past (b .columns) v ↔ Past (b .columns) (b .values)
+  pub agree : (i j : ℕ) → i < b .rows → j < b .columns → stuck b i j ≡ true → bit (b .values) i j ≡ bit v i j
+
+-- value bits at sound cells: plans, and stores, that differ in them alone end the same
+abbrev pub PlanIgnoresSound : Type 0
+PlanIgnoresSound =
+    (b : Block) (v : List ℕ) (k : ℕ) (counters : List ℕ) (a a′ : Answer) (x x′ : List ℕ)
+    → SameWhereStuck b v → Plan b k counters a x → Plan (withValues b v) k counters a′ x′ → (a ≡ a′) × (x ≡ x′)
+
+abbrev pub StoreIgnoresSound : Type 0
+StoreIgnoresSound =
+    (b : Block) (v : List ℕ) (k : ℕ) (counters cells : List ℕ) (a a′ : Answer) (x x′ : List ℕ)
+    → SameWhereStuck b v → Store b k counters cells a x → Store (withValues b v) k counters cells a′ x′ → (a ≡ a′) × (x ≡ x′)

@@ -1,0 +1,141 @@
+//! Checks grid plans and stores a second way: chains in place of levels, and reading back.
+
+use crate::bits::{bit_of_word, bytes_that_hold};
+use crate::call::{GridPlan, GridStore};
+use crate::chains::{verdict, Verdict};
+use crate::counters::{counter_width, stored_counter};
+use crate::grid::{self, Answer};
+use crate::levels::states;
+
+/// Checks a plan already made: refusal 7 and L by chains, and the counters of an accepted one by a store with them.
+pub fn check_plan(call: &GridPlan, answer: Answer) -> Result<(), String> {
+    if answer.number == 0 || answer.number == 7 {
+        check_by_chains(call, answer)?;
+    }
+    if answer.number == 0 {
+        try_store(call, answer)?;
+    }
+    Ok(())
+}
+
+/// Checks refusal 7 and L of a plan, whose numbers, lengths and words were all judged good, by chains.
+fn check_by_chains(call: &GridPlan, answer: Answer) -> Result<(), String> {
+    let columns = call.numbers[1] as usize;
+    let most_levels = call.numbers[2] as usize;
+    let seen = states(columns, &call.data, &call.mask, &call.values);
+    let by_levels = if answer.number == 7 {
+        Verdict::Refusal7
+    } else {
+        Verdict::Levels(answer.levels)
+    };
+    let by_chains = verdict(&seen, most_levels);
+    if by_levels != by_chains {
+        return Err(format!(
+            "levels say {by_levels:?} and chains say {by_chains:?}"
+        ));
+    }
+    Ok(())
+}
+
+/// Makes a store with the counters of an accepted plan: it has to be accepted with the same L and F and to read back.
+fn try_store(call: &GridPlan, planned: Answer) -> Result<(), String> {
+    let mut store = GridStore {
+        numbers: call.numbers,
+        data: call.data.clone(),
+        mask: call.mask.clone(),
+        values: call.values.clone(),
+        counters: call.counters.clone(),
+        cells: vec![u64::MAX; call.data.len()],
+    };
+    let stored = grid::store(
+        store.numbers,
+        &store.data,
+        &store.mask,
+        &store.values,
+        &store.counters,
+        &mut store.cells,
+    );
+    if stored != planned {
+        return Err(format!(
+            "a plan answers {planned:?} and a store with its counters {stored:?}"
+        ));
+    }
+    check_store(&store, stored)
+}
+
+/// Checks a store already made: what an accepted one left, and the reason of one that is refused with 13.
+pub fn check_store(call: &GridStore, answer: Answer) -> Result<(), String> {
+    match answer.number {
+        0 => {
+            check_stuck_cells(call)?;
+            check_reading(call)?;
+            check_counts(call, answer)
+        }
+        13 if !has_misreading_cell(call) => Err(String::from(
+            "a store is refused with 13 and every stuck cell reads as its data bit",
+        )),
+        _ => Ok(()),
+    }
+}
+
+/// Every stuck cell holds its stuck value.
+fn check_stuck_cells(call: &GridStore) -> Result<(), String> {
+    for row in 0..call.data.len() {
+        for column in 0..call.numbers[1] as usize {
+            let stored = bit_of_word(call.cells[row], column);
+            let stuck = bit_of_word(call.mask[row], column);
+            if stuck && stored != bit_of_word(call.values[row], column) {
+                return Err(format!("stuck cell ({row},{column}) of a grid moved"));
+            }
+        }
+    }
+    Ok(())
+}
+
+/// The data comes back by the read.
+fn check_reading(call: &GridStore) -> Result<(), String> {
+    let mut shown = vec![0; call.data.len()];
+    let number = grid::read(call.numbers, &call.cells, &call.counters, &mut shown);
+    if number != 0 || shown != call.data {
+        return Err(format!(
+            "a grid store does not read back (read answers {number})"
+        ));
+    }
+    Ok(())
+}
+
+/// L is a counter and none is above it; F is the number of ones of the mask words.
+fn check_counts(call: &GridStore, answer: Answer) -> Result<(), String> {
+    let width = counter_width(call.numbers[2] as usize);
+    let lines = (call.numbers[0] + call.numbers[1]) as usize;
+    let counters: Vec<usize> = (0..lines)
+        .map(|place| stored_counter(&call.counters, width, place))
+        .collect();
+    let is_greatest = counters.contains(&answer.levels)
+        && counters.iter().all(|counter| *counter <= answer.levels);
+    let ones: u32 = call.mask.iter().map(|word| word.count_ones()).sum();
+    if !is_greatest || answer.stuck != ones as usize {
+        return Err(format!(
+            "a store answers {answer:?} for counters {counters:?} and {ones} stuck cells"
+        ));
+    }
+    Ok(())
+}
+
+/// Whether a stuck cell's data bit, inverted as the counters ask, is not its stuck value.
+fn has_misreading_cell(call: &GridStore) -> bool {
+    let [rows, columns, most_levels] = call.numbers.map(|number| number as usize);
+    let width = counter_width(most_levels);
+    if call.counters.len() != bytes_that_hold((rows + columns) * width) {
+        return false;
+    }
+    (0..rows).any(|row| {
+        (0..columns).any(|column| {
+            let of_row = stored_counter(&call.counters, width, row);
+            let of_column = stored_counter(&call.counters, width, rows + column);
+            let inverted = of_row.min(of_column) % 2 == 1;
+            let to_hold = bit_of_word(call.data[row], column) != inverted;
+            bit_of_word(call.mask[row], column) && to_hold != bit_of_word(call.values[row], column)
+        })
+    })
+}
