@@ -46,9 +46,9 @@ size_t read_block(size_t rows, size_t columns, size_t k, struct block *b, const 
     return ernavluq_grid_read(rows, columns, k, b->cells, lengths[CELLS], b->counters, lengths[COUNTERS], b->out, lengths[OUT]).number;
 }
 
-int answers(ernavluq_grid_answer a, size_t number, size_t levels, size_t stuck)
+int answers(ernavluq_grid_answer a, size_t number, size_t levels, size_t wrong, size_t right)
 {
-    return a.number == number && a.levels == levels && a.faults == stuck;
+    return a.number == number && a.levels == levels && a.faults == wrong + right && a.wrong == wrong && a.right == right;
 }
 
 int same(const struct block *now, const struct block *want)
@@ -65,14 +65,14 @@ static size_t put_block(const char *data, const char *faults, struct block *b)
 }
 
 /* A store and a read: both are as expected, and where the store is accepted the read gives the data. */
-static int stored(size_t rows, size_t columns, size_t k, struct block *now, const size_t *lengths, size_t number, size_t levels, size_t stuck,
-    const char *cells)
+static int stored(size_t rows, size_t columns, size_t k, struct block *now, const size_t *lengths, size_t number, size_t levels, size_t wrong,
+    size_t right, const char *cells)
 {
     struct block want = *now;
     int good;
     if (number == 0)
         put_picture(cells, "1", want.cells);
-    good = answers(store_block(rows, columns, k, now, lengths), number, levels, stuck) && same(now, &want);
+    good = answers(store_block(rows, columns, k, now, lengths), number, levels, wrong, right) && same(now, &want);
     if (number != 0)
         return good;
     memcpy(want.out, want.data, rows * sizeof *want.out);
@@ -83,28 +83,31 @@ static const struct block_plan {
     const char *name;
     size_t columns, k;
     const char *data, *faults; /* pictures; of the faults: 0 and 1 are stuck at that, v is a sound cell whose value bit is 1. What is expected: */
-    size_t number, levels, stuck;
+    size_t number, levels, wrong, right;
     const char *counters, *cells; /* the cells after a store with these counters */
 } block_plans[] = {
-    {"G1* no stuck cell", 2, 1, "10 01", ".. ..", 0, 0, 0, "00", "10 01"},
-    {"G1  value bits of sound cells", 2, 1, "10 01", "vv vv", 0, 0, 0, "00", "10 01"},
-    {"G2* one cell, stuck at the wrong bit", 1, 1, "1", "0", 0, 1, 1, "03", "0"},
-    {"G2  one cell, stuck at the right bit", 1, 1, "1", "1", 0, 0, 1, "00", "1"},
-    {"G3* a chain of three, K = 3", 2, 3, "00 00", "10 .1", 0, 2, 3, "96", "10 11"},
-    {"G3  a chain of three, K = 2", 2, 2, "00 00", "10 .1", 0, 2, 3, "96", "10 11"},
-    {"G4* a chain of three, K = 1", 2, 1, "00 00", "10 .1", 7, 0, 0, "FF", ""},
-    {"G5* a loop, K = 1", 2, 1, "00 00", "10 01", 7, 0, 0, "FF", ""},
-    {"G5* a loop, K = 2", 2, 2, "00 00", "10 01", 7, 0, 0, "FF", ""},
-    {"G5* a loop, K = 3", 2, 3, "00 00", "10 01", 7, 0, 0, "FF", ""},
-    {"G6* a chain of five, K = 3", 3, 3, "000 000 000", "10. .10 ..1", 0, 3, 5, "5E 0B", "100 110 111"},
-    {"G6* a chain of five, K = 2", 3, 2, "000 000 000", "10. .10 ..1", 7, 0, 0, "FF FF", ""},
-    {"G6  a chain of five in 4 by 4", 4, 3, "0000 0000 0000 0000", "10.. .10. ..1. ....", 0, 3, 5, "1E 2D", "1000 1100 1110 0000"},
-    {"G7  a chain of seven", 4, 3, "0000 0000 0000 0000", "10.. .10. ..10 ...1", 7, 0, 0, "FF FF", ""},
-    {"G8* three in turn, the ends are right", 2, 1, "00 00", "01 .0", 0, 1, 3, "09", "01 00"},
-    {"    data past the last column", 1, 1, "01", ".", 3, 0, 0, "FF", ""},
-    {"    mask past the last column", 1, 1, "0", ".0", 3, 0, 0, "FF", ""},
-    {"    values past the last column", 1, 1, "0", ".v", 3, 0, 0, "FF", ""},
-    {"    a bit past the last column before a loop", 2, 1, "001 00", "10 01", 3, 0, 0, "FF", ""},
+    {"G1* no stuck cell", 2, 1, "10 01", ".. ..", 0, 0, 0, 0, "00", "10 01"},
+    {"G1  value bits of sound cells", 2, 1, "10 01", "vv vv", 0, 0, 0, 0, "00", "10 01"},
+    {"G2* one cell, stuck at the wrong bit", 1, 1, "1", "0", 0, 1, 1, 0, "03", "0"},
+    {"G2  one cell, stuck at the right bit", 1, 1, "1", "1", 0, 0, 0, 1, "00", "1"},
+    {"G3* a chain of three, K = 3", 2, 3, "00 00", "10 .1", 0, 2, 2, 1, "96", "10 11"},
+    {"G3  a chain of three, K = 2", 2, 2, "00 00", "10 .1", 0, 2, 2, 1, "96", "10 11"},
+    {"G4* a chain of three, K = 1", 2, 1, "00 00", "10 .1", 7, 0, 0, 0, "FF", ""},
+    {"G5* a loop, K = 1", 2, 1, "00 00", "10 01", 7, 0, 0, 0, "FF", ""},
+    {"G5* a loop, K = 2", 2, 2, "00 00", "10 01", 7, 0, 0, 0, "FF", ""},
+    {"G5* a loop, K = 3", 2, 3, "00 00", "10 01", 7, 0, 0, 0, "FF", ""},
+    {"G6* a chain of five, K = 3", 3, 3, "000 000 000", "10. .10 ..1", 0, 3, 3, 2, "5E 0B", "100 110 111"},
+    {"G6* a chain of five, K = 2", 3, 2, "000 000 000", "10. .10 ..1", 7, 0, 0, 0, "FF FF", ""},
+    {"G6  a chain of five in 4 by 4", 4, 3, "0000 0000 0000 0000", "10.. .10. ..1. ....", 0, 3, 3, 2, "1E 2D", "1000 1100 1110 0000"},
+    {"G7  a chain of seven", 4, 3, "0000 0000 0000 0000", "10.. .10. ..10 ...1", 7, 0, 0, 0, "FF FF", ""},
+    {"G8* three in turn, the ends are right", 2, 1, "00 00", "01 .0", 0, 1, 1, 2, "09", "01 00"},
+    {"A9  one wrong and three right, sound values equal", 5, 1, "10110 01001", "v00v0 0v..v", 0, 1, 1, 3, "11", "10010 01001"},
+    {"A9  one wrong and three right, sound values differ", 5, 1, "10110 01001", ".00.0 0.vv.", 0, 1, 1, 3, "11", "10010 01001"},
+    {"A9  three wrong and one right", 5, 1, "01001 10110", "v00v0 0v..v", 0, 1, 3, 1, "4F", "10000 01111"},
+    {"    data past the last column", 1, 1, "01", ".", 3, 0, 0, 0, "FF", ""},
+    {"    mask past the last column", 1, 1, "0", ".0", 3, 0, 0, 0, "FF", ""},
+    {"    values past the last column", 1, 1, "0", ".v", 3, 0, 0, 0, "FF", ""},
+    {"    a bit past the last column before a loop", 2, 1, "001 00", "10 01", 3, 0, 0, 0, "FF", ""},
 };
 
 static void try_block_plan(const struct block_plan *c)
@@ -118,9 +121,9 @@ static void try_block_plan(const struct block_plan *c)
     if (c->number != 0)
         memcpy(want.counters, now.counters, sizeof want.counters);
     size_t lengths[BUFFERS] = {rows, rows, rows, bytes, rows, rows};
-    good = answers(plan_block(rows, c->columns, c->k, &now, lengths), c->number, c->levels, c->stuck) && same(&now, &want);
+    good = answers(plan_block(rows, c->columns, c->k, &now, lengths), c->number, c->levels, c->wrong, c->right) && same(&now, &want);
     if (c->number == 0)
-        good = good && stored(rows, c->columns, c->k, &now, lengths, 0, c->levels, c->stuck, c->cells);
+        good = good && stored(rows, c->columns, c->k, &now, lengths, 0, c->levels, c->wrong, c->right, c->cells);
     report(c->name, good);
 }
 
@@ -128,35 +131,35 @@ static const struct block_store {
     const char *name;
     size_t columns, k;
     const char *data, *faults, *counters; /* as above, and bytes; what is expected: */
-    size_t number, levels, stuck;
+    size_t number, levels, wrong, right;
     const char *cells;
 } block_stores[] = {
-    {"G1  store, every counter 1", 2, 1, "10 01", ".. ..", "0F", 0, 1, 0, "01 10"},
-    {"G1  store, a row's counter alone", 2, 1, "10 01", ".. ..", "01", 0, 1, 0, "10 01"},
-    {"G2  store, the row's counter alone", 1, 1, "1", "0", "01", 13, 0, 0, ""},
-    {"G2  store, the column's counter alone", 1, 1, "1", "0", "02", 13, 0, 0, ""},
-    {"G2  store, both counters, stuck at the right bit", 1, 1, "1", "1", "03", 13, 0, 0, ""},
-    {"G2  store, counters 1 and 3", 1, 3, "1", "0", "0D", 0, 3, 1, "0"},
-    {"G2  store, counters 2 and 3", 1, 3, "1", "0", "0E", 13, 0, 0, ""},
-    {"G3  store, every counter 0", 2, 3, "00 00", "10 .1", "00", 13, 0, 0, ""},
-    {"G3  store, rows 3 and 1, columns 3 and 2", 2, 3, "00 00", "10 .1", "B7", 0, 3, 3, "10 11"},
-    {"G3  store, other data in the sound cell", 2, 3, "00 10", "10 .1", "96", 0, 2, 3, "10 01"},
-    {"G3  store, other data in a stuck cell", 2, 3, "10 00", "10 .1", "96", 13, 0, 0, ""},
-    {"G3  store, only the last cell would read wrong", 2, 3, "00 00", "10 .0", "96", 13, 0, 0, ""},
-    {"G6  store, row 1 has 2 in place of 3", 3, 3, "000 000 000", "10. .10 ..1", "5A 0B", 13, 0, 0, ""},
-    {"G10 store, K = 2, a row's counter is 3", 1, 2, "1", ".", "03", 4, 0, 0, ""},
-    {"G10 store, K = 2, a column's counter is 3", 1, 2, "1", ".", "0C", 4, 0, 0, ""},
-    {"G10 store, K = 2, both counters are 2", 1, 2, "1", ".", "0A", 0, 2, 0, "1"},
-    {"G10 store, K = 3, both counters are 3", 1, 3, "1", ".", "0F", 0, 3, 0, "0"},
-    {"    store, a counter above K before a stuck cell read wrong", 1, 2, "1", "0", "03", 4, 0, 0, ""},
-    {"    store, the first spare bit, K = 1", 2, 1, "00 00", ".. ..", "10", 3, 0, 0, ""},
-    {"    store, the last bit of the counters, K = 1", 2, 1, "00 00", ".. ..", "08", 0, 1, 0, "00 00"},
-    {"    store, the first spare bit, K = 2", 1, 2, "0", ".", "10", 3, 0, 0, ""},
-    {"    store, a spare bit before a counter above K", 1, 2, "0", ".", "13", 3, 0, 0, ""},
-    {"    store, data past the last column", 1, 1, "01", ".", "00", 3, 0, 0, ""},
-    {"    store, mask past the last column", 1, 1, "0", ".0", "00", 3, 0, 0, ""},
-    {"    store, values past the last column", 1, 1, "0", ".v", "00", 3, 0, 0, ""},
-    {"    store, a bit past the last column before a counter above K", 1, 2, "01", ".", "03", 3, 0, 0, ""},
+    {"G1  store, every counter 1", 2, 1, "10 01", ".. ..", "0F", 0, 1, 0, 0, "01 10"},
+    {"G1  store, a row's counter alone", 2, 1, "10 01", ".. ..", "01", 0, 1, 0, 0, "10 01"},
+    {"G2  store, the row's counter alone", 1, 1, "1", "0", "01", 13, 0, 0, 0, ""},
+    {"G2  store, the column's counter alone", 1, 1, "1", "0", "02", 13, 0, 0, 0, ""},
+    {"G2  store, both counters, stuck at the right bit", 1, 1, "1", "1", "03", 13, 0, 0, 0, ""},
+    {"G2  store, counters 1 and 3", 1, 3, "1", "0", "0D", 0, 3, 1, 0, "0"},
+    {"G2  store, counters 2 and 3", 1, 3, "1", "0", "0E", 13, 0, 0, 0, ""},
+    {"G3  store, every counter 0", 2, 3, "00 00", "10 .1", "00", 13, 0, 0, 0, ""},
+    {"G3  store, rows 3 and 1, columns 3 and 2", 2, 3, "00 00", "10 .1", "B7", 0, 3, 2, 1, "10 11"},
+    {"G3  store, other data in the sound cell", 2, 3, "00 10", "10 .1", "96", 0, 2, 2, 1, "10 01"},
+    {"G3  store, other data in a stuck cell", 2, 3, "10 00", "10 .1", "96", 13, 0, 0, 0, ""},
+    {"G3  store, only the last cell would read wrong", 2, 3, "00 00", "10 .0", "96", 13, 0, 0, 0, ""},
+    {"G6  store, row 1 has 2 in place of 3", 3, 3, "000 000 000", "10. .10 ..1", "5A 0B", 13, 0, 0, 0, ""},
+    {"G10 store, K = 2, a row's counter is 3", 1, 2, "1", ".", "03", 4, 0, 0, 0, ""},
+    {"G10 store, K = 2, a column's counter is 3", 1, 2, "1", ".", "0C", 4, 0, 0, 0, ""},
+    {"G10 store, K = 2, both counters are 2", 1, 2, "1", ".", "0A", 0, 2, 0, 0, "1"},
+    {"G10 store, K = 3, both counters are 3", 1, 3, "1", ".", "0F", 0, 3, 0, 0, "0"},
+    {"    store, a counter above K before a stuck cell read wrong", 1, 2, "1", "0", "03", 4, 0, 0, 0, ""},
+    {"    store, the first spare bit, K = 1", 2, 1, "00 00", ".. ..", "10", 3, 0, 0, 0, ""},
+    {"    store, the last bit of the counters, K = 1", 2, 1, "00 00", ".. ..", "08", 0, 1, 0, 0, "00 00"},
+    {"    store, the first spare bit, K = 2", 1, 2, "0", ".", "10", 3, 0, 0, 0, ""},
+    {"    store, a spare bit before a counter above K", 1, 2, "0", ".", "13", 3, 0, 0, 0, ""},
+    {"    store, data past the last column", 1, 1, "01", ".", "00", 3, 0, 0, 0, ""},
+    {"    store, mask past the last column", 1, 1, "0", ".0", "00", 3, 0, 0, 0, ""},
+    {"    store, values past the last column", 1, 1, "0", ".v", "00", 3, 0, 0, 0, ""},
+    {"    store, a bit past the last column before a counter above K", 1, 2, "01", ".", "03", 3, 0, 0, 0, ""},
 };
 
 static void try_block_store(const struct block_store *c)
@@ -164,7 +167,7 @@ static void try_block_store(const struct block_store *c)
     struct block now = new_block();
     size_t rows = put_block(c->data, c->faults, &now);
     size_t lengths[BUFFERS] = {rows, rows, rows, put_hex(c->counters, now.counters), rows, rows};
-    report(c->name, stored(rows, c->columns, c->k, &now, lengths, c->number, c->levels, c->stuck, c->cells));
+    report(c->name, stored(rows, c->columns, c->k, &now, lengths, c->number, c->levels, c->wrong, c->right, c->cells));
 }
 
 /* A loop would read wrong by whatever counters. */
@@ -176,7 +179,7 @@ static void try_loop(void)
         size_t lengths[BUFFERS] = {2, 2, 2, 1, 2, 2};
         put_block("00 00", "10 01", &now);
         now.counters[0] = (uint8_t)byte;
-        good = good && stored(2, 2, 3, &now, lengths, 13, 0, 0, "");
+        good = good && stored(2, 2, 3, &now, lengths, 13, 0, 0, 0, "");
     }
     report("G5  store, a loop, all counters up to 3", good);
 }

@@ -20,7 +20,7 @@ ernavluq_grid_answer store_block(size_t rows, size_t columns, size_t k, struct b
 size_t read_block(size_t rows, size_t columns, size_t k, struct block *b, const size_t *lengths);
 
 /* Whether these are the answer, and whether all buffers are as they should be. */
-int answers(ernavluq_grid_answer a, size_t number, size_t levels, size_t stuck);
+int answers(ernavluq_grid_answer a, size_t number, size_t levels, size_t wrong, size_t right);
 int same(const struct block *now, const struct block *want);
 
 /* Numbers and lengths at the edges of their ranges. */

@@ -74,13 +74,13 @@ static void try_whole(void)
     report("    63 columns, bit 63", plan_block(64, 63, 1, &now, lengths).number == ERNAVLUQ_BIT_PAST_END
         && store_block(64, 63, 1, &now, lengths).number == ERNAVLUQ_BIT_PAST_END && same(&now, &want));
     memset(want.counters, 0xFF, 16);
-    report("    64 columns, all stuck at the wrong bit", answers(plan_block(64, 64, 1, &now, lengths), 0, 1, 4096) && same(&now, &want));
+    report("    64 columns, all stuck at the wrong bit", answers(plan_block(64, 64, 1, &now, lengths), 0, 1, 4096, 0) && same(&now, &want));
     memset(want.cells, 0, 64 * 8);
-    report("    64 columns, stored", answers(store_block(64, 64, 1, &now, lengths), 0, 1, 4096) && same(&now, &want));
+    report("    64 columns, stored", answers(store_block(64, 64, 1, &now, lengths), 0, 1, 4096, 0) && same(&now, &want));
     memset(want.out, 0xFF, 64 * 8);
     report("    64 columns, read back", read_block(64, 64, 1, &now, lengths) == 0 && same(&now, &want));
     now.counters[15] = want.counters[15] = 0x7F;
-    report("    64 columns, the last counter 0", answers(store_block(64, 64, 1, &now, lengths), 13, 0, 0) && same(&now, &want));
+    report("    64 columns, the last counter 0", answers(store_block(64, 64, 1, &now, lengths), 13, 0, 0, 0) && same(&now, &want));
 }
 
 void try_block_edges(void)

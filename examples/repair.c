@@ -78,7 +78,8 @@ static int repair_a_block(void)
     printf("plan, K = 2:   refused with number %zu: %s\n", refused.number, in_words(refused.number));
 
     planned = ernavluq_grid_plan(ROWS, COLUMNS, K, data, ROWS, mask, ROWS, values, ROWS, counters, sizeof counters);
-    printf("plan, K = 3:   %s; %zu levels for %zu stuck cells\n", in_words(planned.number), planned.levels, planned.faults);
+    printf("plan, K = 3:   %s; %zu levels for %zu stuck cells, %zu wrong and %zu right\n", in_words(planned.number), planned.levels, planned.faults,
+        planned.wrong, planned.right);
     if (planned.number != ERNAVLUQ_ACCEPTED)
         return 0;
 

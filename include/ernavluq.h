@@ -101,7 +101,9 @@ typedef struct {
 typedef struct {
     size_t number; /* 0, or the refusal */
     size_t levels; /* of a plan the levels used, of a store its greatest counter */
-    size_t faults; /* the stuck cells of the block */
+    size_t faults; /* the stuck cells of the block: the wrong and the right ones together */
+    size_t wrong;  /* those of them that are stuck at the other bit than their data bit */
+    size_t right;  /* those that are stuck at their data bit */
 } ernavluq_grid_answer;
 
 /* Plans a write of data to a block, and is lent no cells. Takes its rows and columns (1 to 64 each), K (1 to 3), the data, which cells are stuck and at

@@ -1,10 +1,13 @@
-//! Whether archive, peer and second program agree: number, counts and every buffer, call by call.
+//! Whether archive, peer and second program agree: number, every count and every buffer, call by call.
+
+use std::fmt::Debug;
 
 use second::call::Call;
 
+use crate::answers::Answer;
 use crate::calls::{kind_of, Calls, KINDS, NUMBERS};
-use crate::contestant::{Answer, Archive, Peer, Second};
-use crate::input::make;
+use crate::contestant::{Archive, Peer, Second};
+use crate::input::Input;
 
 /// So many calls of each kind are compared.
 pub const CALLS_OF_A_KIND: usize = 50_000;
@@ -18,20 +21,20 @@ pub type Tally = [[usize; 14]; 5];
 /// The numbers that the report shows; 8 to 12 are no call's.
 const SHOWN: [usize; 9] = [0, 1, 2, 3, 4, 5, 6, 7, 13];
 
-/// Has all three make a call; the number, or what they said and did if they differ.
-fn compare(call: &Call) -> Result<usize, String> {
+/// Has all three make a call of one kind; the number, or what they said and did if they differ.
+fn compare<I: Input + Debug + PartialEq>(call: &I) -> Result<usize, String> {
     let mut after = [call.clone(), call.clone(), call.clone()];
-    let answers: [Answer; 3] = [
-        make::<Archive>(&mut after[0]),
-        make::<Peer>(&mut after[1]),
-        make::<Second>(&mut after[2]),
+    let answers = [
+        after[0].made_by::<Archive>(),
+        after[1].made_by::<Peer>(),
+        after[2].made_by::<Second>(),
     ];
     let agree = answers[0] == answers[2]
         && answers[1] == answers[2]
         && after[0] == after[2]
         && after[1] == after[2];
     if agree {
-        return Ok(answers[2].number);
+        return Ok(answers[2].number());
     }
     let mut told = format!("they disagree on this call:\n{call:x?}\n");
     for (name, (answer, after)) in ["archive", "peer", "second"]
@@ -41,6 +44,17 @@ fn compare(call: &Call) -> Result<usize, String> {
         told += &format!("{name} answers {answer:?} and leaves\n{after:x?}\n");
     }
     Err(told)
+}
+
+/// Has all three make a call of any kind.
+fn compare_any(call: &Call) -> Result<usize, String> {
+    match call {
+        Call::PointerWrite(c) => compare(c),
+        Call::PointerRead(c) => compare(c),
+        Call::GridPlan(c) => compare(c),
+        Call::GridRead(c) => compare(c),
+        Call::GridStore(c) => compare(c),
+    }
 }
 
 /// Compares so many calls of each kind; how often each number came up, or the first call on which they differ.
@@ -53,7 +67,7 @@ pub fn agree(calls_of_a_kind: usize) -> Result<Tally, String> {
         let kind = kind_of(&call);
         if compared[kind] < calls_of_a_kind {
             compared[kind] += 1;
-            tally[kind][compare(&call)?] += 1;
+            tally[kind][compare_any(&call)?] += 1;
         }
     }
     Ok(tally)

@@ -1,19 +1,6 @@
 //! The archive's five functions, as `include/ernavluq.h` declares them, over slices.
 
-/// What a read answers.
-#[repr(C)]
-#[derive(Clone, Copy)]
-pub struct ReadAnswer {
-    pub number: usize,
-}
-
-/// What a write, a plan or a store answers: the number, then active and new entries, or levels and stuck cells.
-#[repr(C)]
-#[derive(Clone, Copy)]
-pub struct CountedAnswer {
-    pub number: usize,
-    pub counts: [usize; 2],
-}
+use crate::answers::{GridAnswer, PointerWriteAnswer, ReadAnswer};
 
 extern "C" {
     fn ernavluq_pointer_read(
@@ -37,7 +24,7 @@ extern "C" {
         cells_length: usize,
         metadata: *mut u8,
         metadata_length: usize,
-    ) -> CountedAnswer;
+    ) -> PointerWriteAnswer;
     fn ernavluq_grid_read(
         rows: usize,
         columns: usize,
@@ -61,7 +48,7 @@ extern "C" {
         values_length: usize,
         counters: *mut u8,
         counters_length: usize,
-    ) -> CountedAnswer;
+    ) -> GridAnswer;
     fn ernavluq_grid_store(
         rows: usize,
         columns: usize,
@@ -76,7 +63,7 @@ extern "C" {
         counters_length: usize,
         cells: *mut u64,
         cells_length: usize,
-    ) -> CountedAnswer;
+    ) -> GridAnswer;
 }
 
 /// The archive's pointer read.
@@ -105,7 +92,7 @@ pub fn pointer_write(
     values: &[u8],
     cells: &mut [u8],
     metadata: &mut [u8],
-) -> CountedAnswer {
+) -> PointerWriteAnswer {
     // SAFETY: as for the pointer read.
     unsafe {
         ernavluq_pointer_write(
@@ -156,7 +143,7 @@ pub fn grid_plan(
     mask: &[u64],
     values: &[u64],
     counters: &mut [u8],
-) -> CountedAnswer {
+) -> GridAnswer {
     // SAFETY: as for the grid read.
     unsafe {
         ernavluq_grid_plan(
@@ -184,7 +171,7 @@ pub fn grid_store(
     values: &[u64],
     counters: &[u8],
     cells: &mut [u64],
-) -> CountedAnswer {
+) -> GridAnswer {
     // SAFETY: as for the grid read.
     unsafe {
         ernavluq_grid_store(

@@ -2,6 +2,7 @@
 
 use second::call::{GridPlan, GridRead, GridStore, PointerRead, PointerWrite};
 
+use crate::answers::{GridAnswer, PointerWriteAnswer, ReadAnswer};
 use crate::{archive, peer};
 
 /// A number of a call as the machine's own word; they have the same 64 bits.
@@ -10,29 +11,25 @@ fn word(number: u64) -> usize {
     number as usize
 }
 
-/// What a call answers: the number, and the counts, 0 for a read.
-#[derive(Clone, Copy, Debug, PartialEq, Eq)]
-pub struct Answer {
-    pub number: usize,
-    pub counts: [usize; 2],
-}
-
-/// The answer of a read.
+/// The second program's answer to a plan or a store.
 #[inline(always)]
-fn of_read(number: usize) -> Answer {
-    Answer {
-        number,
-        counts: [0, 0],
+fn of_second(answer: second::grid::Answer) -> GridAnswer {
+    GridAnswer {
+        number: usize::from(answer.number),
+        levels: answer.levels,
+        faults: answer.stuck,
+        wrong: answer.wrong,
+        right: answer.right,
     }
 }
 
 /// Somebody who makes the five calls.
 pub trait Contestant {
-    fn pointer_write(call: &mut PointerWrite) -> Answer;
-    fn pointer_read(call: &mut PointerRead) -> Answer;
-    fn grid_plan(call: &mut GridPlan) -> Answer;
-    fn grid_read(call: &mut GridRead) -> Answer;
-    fn grid_store(call: &mut GridStore) -> Answer;
+    fn pointer_write(call: &mut PointerWrite) -> PointerWriteAnswer;
+    fn pointer_read(call: &mut PointerRead) -> ReadAnswer;
+    fn grid_plan(call: &mut GridPlan) -> GridAnswer;
+    fn grid_read(call: &mut GridRead) -> ReadAnswer;
+    fn grid_store(call: &mut GridStore) -> GridAnswer;
 }
 
 /// The archive under test.
@@ -46,93 +43,73 @@ pub struct Second;
 
 impl Contestant for Archive {
     #[inline(always)]
-    fn pointer_write(c: &mut PointerWrite) -> Answer {
+    fn pointer_write(c: &mut PointerWrite) -> PointerWriteAnswer {
         let n = word(c.n);
-        let answer = archive::pointer_write(
+        archive::pointer_write(
             n,
             &c.data,
             &c.mask,
             &c.values,
             &mut c.cells,
             &mut c.metadata,
-        );
-        Answer {
-            number: answer.number,
-            counts: answer.counts,
-        }
+        )
     }
 
     #[inline(always)]
-    fn pointer_read(c: &mut PointerRead) -> Answer {
-        of_read(archive::pointer_read(word(c.n), &c.cells, &c.metadata, &mut c.output).number)
+    fn pointer_read(c: &mut PointerRead) -> ReadAnswer {
+        archive::pointer_read(word(c.n), &c.cells, &c.metadata, &mut c.output)
     }
 
     #[inline(always)]
-    fn grid_plan(c: &mut GridPlan) -> Answer {
+    fn grid_plan(c: &mut GridPlan) -> GridAnswer {
         let numbers = c.numbers.map(word);
-        let answer = archive::grid_plan(numbers, &c.data, &c.mask, &c.values, &mut c.counters);
-        Answer {
-            number: answer.number,
-            counts: answer.counts,
-        }
+        archive::grid_plan(numbers, &c.data, &c.mask, &c.values, &mut c.counters)
     }
 
     #[inline(always)]
-    fn grid_read(c: &mut GridRead) -> Answer {
+    fn grid_read(c: &mut GridRead) -> ReadAnswer {
         let numbers = c.numbers.map(word);
-        of_read(archive::grid_read(numbers, &c.cells, &c.counters, &mut c.output).number)
+        archive::grid_read(numbers, &c.cells, &c.counters, &mut c.output)
     }
 
     #[inline(always)]
-    fn grid_store(c: &mut GridStore) -> Answer {
+    fn grid_store(c: &mut GridStore) -> GridAnswer {
         let numbers = c.numbers.map(word);
-        let answer = archive::grid_store(
+        archive::grid_store(
             numbers,
             &c.data,
             &c.mask,
             &c.values,
             &c.counters,
             &mut c.cells,
-        );
-        Answer {
-            number: answer.number,
-            counts: answer.counts,
-        }
+        )
     }
 }
 
 impl Contestant for Peer {
     #[inline(always)]
-    fn pointer_write(c: &mut PointerWrite) -> Answer {
+    fn pointer_write(c: &mut PointerWrite) -> PointerWriteAnswer {
         let n = word(c.n);
-        let answer = peer::pointer::write(
+        peer::pointer::write(
             n,
             &c.data,
             &c.mask,
             &c.values,
             &mut c.cells,
             &mut c.metadata,
-        );
-        Answer {
-            number: answer.number,
-            counts: answer.counts,
-        }
+        )
     }
 
     #[inline(always)]
-    fn pointer_read(c: &mut PointerRead) -> Answer {
-        of_read(peer::pointer::read(
-            word(c.n),
-            &c.cells,
-            &c.metadata,
-            &mut c.output,
-        ))
+    fn pointer_read(c: &mut PointerRead) -> ReadAnswer {
+        let number = peer::pointer::read(word(c.n), &c.cells, &c.metadata, &mut c.output);
+        ReadAnswer { number }
     }
 
     #[inline(always)]
-    fn grid_plan(c: &mut GridPlan) -> Answer {
+    fn grid_plan(c: &mut GridPlan) -> GridAnswer {
         let [rows, columns, k] = c.numbers.map(word);
-        let answer = peer::grid::plan(
+        peer::grid::plan(
             rows,
             columns,
             k,
@@ -140,30 +117,20 @@ impl Contestant for Peer {
             &c.mask,
             &c.values,
             &mut c.counters,
-        );
-        Answer {
-            number: answer.number,
-            counts: answer.counts,
-        }
+        )
     }
 
     #[inline(always)]
-    fn grid_read(c: &mut GridRead) -> Answer {
+    fn grid_read(c: &mut GridRead) -> ReadAnswer {
         let [rows, columns, k] = c.numbers.map(word);
-        of_read(peer::grid::read(
-            rows,
-            columns,
-            k,
-            &c.cells,
-            &c.counters,
-            &mut c.output,
-        ))
+        let number = peer::grid::read(rows, columns, k, &c.cells, &c.counters, &mut c.output);
+        ReadAnswer { number }
     }
 
     #[inline(always)]
-    fn grid_store(c: &mut GridStore) -> Answer {
+    fn grid_store(c: &mut GridStore) -> GridAnswer {
         let [rows, columns, k] = c.numbers.map(word);
-        let answer = peer::grid::store(
+        peer::grid::store(
             rows,
             columns,
             k,
@@ -172,17 +139,13 @@ impl Contestant for Peer {
             &c.values,
             &c.counters,
             &mut c.cells,
-        );
-        Answer {
-            number: answer.number,
-            counts: answer.counts,
-        }
+        )
     }
 }
 
 impl Contestant for Second {
     #[inline(always)]
-    fn pointer_write(c: &mut PointerWrite) -> Answer {
+    fn pointer_write(c: &mut PointerWrite) -> PointerWriteAnswer {
         let answer = second::pointer::write(
             c.n,
             &c.data,
@@ -191,35 +154,37 @@ impl Contestant for Second {
             &mut c.cells,
             &mut c.metadata,
         );
-        Answer {
+        PointerWriteAnswer {
             number: usize::from(answer.number),
-            counts: [answer.active, answer.new],
+            active: answer.active,
+            new_entries: answer.new,
         }
     }
 
     #[inline(always)]
-    fn pointer_read(c: &mut PointerRead) -> Answer {
+    fn pointer_read(c: &mut PointerRead) -> ReadAnswer {
         let number = second::pointer::read(c.n, &c.cells, &c.metadata, &mut c.output);
-        of_read(usize::from(number))
-    }
-
-    #[inline(always)]
-    fn grid_plan(c: &mut GridPlan) -> Answer {
-        let answer = second::grid::plan(c.numbers, &c.data, &c.mask, &c.values, &mut c.counters);
-        Answer {
-            number: usize::from(answer.number),
-            counts: [answer.levels, answer.stuck],
+        ReadAnswer {
+            number: usize::from(number),
         }
     }
 
     #[inline(always)]
-    fn grid_read(c: &mut GridRead) -> Answer {
-        let number = second::grid::read(c.numbers, &c.cells, &c.counters, &mut c.output);
-        of_read(usize::from(number))
+    fn grid_plan(c: &mut GridPlan) -> GridAnswer {
+        let answer = second::grid::plan(c.numbers, &c.data, &c.mask, &c.values, &mut c.counters);
+        of_second(answer)
     }
 
     #[inline(always)]
-    fn grid_store(c: &mut GridStore) -> Answer {
+    fn grid_read(c: &mut GridRead) -> ReadAnswer {
+        let number = second::grid::read(c.numbers, &c.cells, &c.counters, &mut c.output);
+        ReadAnswer {
+            number: usize::from(number),
+        }
+    }
+
+    #[inline(always)]
+    fn grid_store(c: &mut GridStore) -> GridAnswer {
         let answer = second::grid::store(
             c.numbers,
             &c.data,
@@ -228,9 +193,6 @@ impl Contestant for Second {
             &c.counters,
             &mut c.cells,
         );
-        Answer {
-            number: usize::from(answer.number),
-            counts: [answer.levels, answer.stuck],
-        }
+        of_second(answer)
     }
 }

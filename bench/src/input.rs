@@ -1,21 +1,27 @@
 //! The calls as inputs that any contestant can be given, again and again.
 
-use second::call::{Call, GridPlan, GridRead, GridStore, PointerRead, PointerWrite};
+use second::call::{GridPlan, GridRead, GridStore, PointerRead, PointerWrite};
 
-use crate::contestant::{Answer, Contestant};
+use crate::answers::{Answer, GridAnswer, PointerWriteAnswer, ReadAnswer};
+use crate::contestant::Contestant;
 
 /// The arguments of one kind of call.
 pub trait Input: Clone {
+    /// What this kind of call answers.
+    type Answer: Answer;
+
     /// Has a contestant make the call.
-    fn made_by<C: Contestant>(&mut self) -> Answer;
+    fn made_by<C: Contestant>(&mut self) -> Self::Answer;
 
     /// Gives the buffers that a call may change what they held before.
     fn restore(&mut self, before: &Self);
 }
 
 impl Input for PointerWrite {
+    type Answer = PointerWriteAnswer;
+
     #[inline(always)]
-    fn made_by<C: Contestant>(&mut self) -> Answer {
+    fn made_by<C: Contestant>(&mut self) -> PointerWriteAnswer {
         C::pointer_write(self)
     }
 
@@ -26,8 +32,10 @@ impl Input for PointerWrite {
 }
 
 impl Input for PointerRead {
+    type Answer = ReadAnswer;
+
     #[inline(always)]
-    fn made_by<C: Contestant>(&mut self) -> Answer {
+    fn made_by<C: Contestant>(&mut self) -> ReadAnswer {
         C::pointer_read(self)
     }
 
@@ -37,8 +45,10 @@ impl Input for PointerRead {
 }
 
 impl Input for GridPlan {
+    type Answer = GridAnswer;
+
     #[inline(always)]
-    fn made_by<C: Contestant>(&mut self) -> Answer {
+    fn made_by<C: Contestant>(&mut self) -> GridAnswer {
         C::grid_plan(self)
     }
 
@@ -48,8 +58,10 @@ impl Input for GridPlan {
 }
 
 impl Input for GridRead {
+    type Answer = ReadAnswer;
+
     #[inline(always)]
-    fn made_by<C: Contestant>(&mut self) -> Answer {
+    fn made_by<C: Contestant>(&mut self) -> ReadAnswer {
         C::grid_read(self)
     }
 
@@ -59,23 +71,14 @@ impl Input for GridRead {
 }
 
 impl Input for GridStore {
+    type Answer = GridAnswer;
+
     #[inline(always)]
-    fn made_by<C: Contestant>(&mut self) -> Answer {
+    fn made_by<C: Contestant>(&mut self) -> GridAnswer {
         C::grid_store(self)
     }
 
     fn restore(&mut self, before: &GridStore) {
         self.cells.copy_from_slice(&before.cells);
-    }
-}
-
-/// Has a contestant make a call of any kind.
-pub fn make<C: Contestant>(call: &mut Call) -> Answer {
-    match call {
-        Call::PointerWrite(c) => c.made_by::<C>(),
-        Call::PointerRead(c) => c.made_by::<C>(),
-        Call::GridPlan(c) => c.made_by::<C>(),
-        Call::GridRead(c) => c.made_by::<C>(),
-        Call::GridStore(c) => c.made_by::<C>(),
     }
 }

@@ -5,6 +5,7 @@ use second::bits::bytes_that_hold;
 use second::call::{GridPlan, GridRead, GridStore};
 use second::random::Random;
 
+use crate::answers::Answer;
 use crate::contestant::Second;
 use crate::input::Input;
 
@@ -79,7 +80,7 @@ fn stick_chain(random: &mut Random, call: &mut GridPlan, k: usize) {
 
 /// The number that the second program answers.
 fn number(call: &impl Input) -> usize {
-    call.clone().made_by::<Second>().number
+    call.clone().made_by::<Second>().number()
 }
 
 /// So many blocks of this size with so many cells stuck anywhere, the plans of all of them accepted for K.

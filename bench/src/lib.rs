@@ -1,6 +1,7 @@
 //! Measures the archive of Ernavluq against two peers, after it has checked that all three agree.
 
 pub mod agree;
+pub mod answers;
 pub mod archive;
 pub mod calls;
 pub mod contestant;

@@ -28,8 +28,12 @@ pub struct GridAnswer {
     pub number: usize,
     /// Of a plan the levels used, of a store its greatest counter.
     pub levels: usize,
-    /// The stuck cells of the block.
+    /// The stuck cells of the block: the wrong and the right ones together.
     pub faults: usize,
+    /// Those of them that are stuck at the other bit than their data bit.
+    pub wrong: usize,
+    /// Those that are stuck at their data bit.
+    pub right: usize,
 }
 
 /// What a read of a grid block answers.

@@ -140,6 +140,7 @@ pub fn pointer_write(
 /// assert_eq!(refusal.to_string(), "refusal 7: the faults of the block cannot be masked for this data");
 /// let planned = ernavluq::grid_plan(2, 2, 2, &data, &mask, &values, &mut counters).unwrap();
 /// assert_eq!((planned.levels, planned.faults, counters), (2, 3, [0x96]));
+/// assert_eq!((planned.wrong, planned.right), (2, 1));
 /// ```
 pub fn grid_plan(
     rows: usize,
@@ -180,7 +181,7 @@ pub fn grid_plan(
 /// let (mut counters, mut cells, mut out) = ([0], [0], [0]);
 /// grid_plan(1, 1, 1, &[1], &[1], &[0], &mut counters)?;
 /// let stored = grid_store(1, 1, 1, &[1], &[1], &[0], &counters, &mut cells)?;
-/// assert_eq!((stored.levels, stored.faults), (1, 1));
+/// assert_eq!((stored.levels, stored.faults, stored.wrong, stored.right), (1, 1, 1, 0));
 /// grid_read(1, 1, 1, &cells, &counters, &mut out)?;
 /// assert_eq!((cells, out), ([0], [1]));
 ///

@@ -152,22 +152,37 @@ fn write_block(
     (answer, counters, cells)
 }
 
-fn answer(number: usize, levels: usize, faults: usize) -> GridAnswer {
+/// An accepted plan or store: L, the wrong stuck cells and the right ones.
+fn accepted(levels: usize, wrong: usize, right: usize) -> GridAnswer {
+    GridAnswer {
+        number: 0,
+        levels,
+        faults: wrong + right,
+        wrong,
+        right,
+    }
+}
+
+/// A refused one counts nothing.
+fn refused(number: usize) -> GridAnswer {
     GridAnswer {
         number,
-        levels,
-        faults,
+        levels: 0,
+        faults: 0,
+        wrong: 0,
+        right: 0,
     }
 }
 
 fn block(
     levels: usize,
-    faults: usize,
+    wrong: usize,
+    right: usize,
     counters: &[u8],
     cells: &[u64],
 ) -> (Result<GridAnswer, Refusal>, Vec<u8>, Vec<u64>) {
     (
-        Ok(answer(0, levels, faults)),
+        Ok(accepted(levels, wrong, right)),
         counters.to_vec(),
         cells.to_vec(),
     )
@@ -177,7 +192,7 @@ fn block_number(k: usize, mask: &[u64], values: &[u64]) -> usize {
     let refusal = write_block(k, mask, values).0.unwrap_err();
     assert_eq!(
         refusal.answer,
-        Answer::GridPlan(answer(refusal.number(), 0, 0))
+        Answer::GridPlan(refused(refusal.number()))
     );
     refusal.number()
 }
@@ -186,7 +201,7 @@ fn block_number(k: usize, mask: &[u64], values: &[u64]) -> usize {
 fn g3_to_g9() {
     assert_eq!(
         write_block(3, &[3, 2], &[1, 2]),
-        block(2, 3, &[0x96], &[1, 3])
+        block(2, 2, 1, &[0x96], &[1, 3])
     );
     assert_eq!(block_number(1, &[3, 2], &[1, 2]), UNMASKABLE);
     for k in 1..=3 {
@@ -194,13 +209,13 @@ fn g3_to_g9() {
     }
     assert_eq!(
         write_block(3, &[3, 6, 4], &[1, 2, 4]),
-        block(3, 5, &[0x5E, 0x0B], &[1, 3, 7])
+        block(3, 3, 2, &[0x5E, 0x0B], &[1, 3, 7])
     );
     assert_eq!(block_number(2, &[3, 6, 4], &[1, 2, 4]), UNMASKABLE);
     assert_eq!(block_number(3, &[3, 6, 12, 8], &[1, 2, 4, 8]), UNMASKABLE);
     assert_eq!(
         write_block(1, &[3, 2], &[2, 0]),
-        block(1, 3, &[0x09], &[2, 0])
+        block(1, 1, 2, &[0x09], &[2, 0])
     );
     assert_eq!(block_number(0, &[0], &[0]), OUT_OF_RANGE);
     assert_eq!(block_number(4, &[0], &[0]), OUT_OF_RANGE);
@@ -208,7 +223,7 @@ fn g3_to_g9() {
     assert_eq!(block_number(1, &[0; 65], &[0; 65]), OUT_OF_RANGE);
     assert_eq!(
         write_block(1, &[0; 64], &[0; 64]),
-        block(0, 0, &[0; 16], &[0; 64])
+        block(0, 0, 0, &[0; 16], &[0; 64])
     );
 }
 
@@ -216,11 +231,11 @@ fn g3_to_g9() {
 fn g1_g2_and_g10() {
     let (mut cells, mut counters, mut out) = ([9; 2], [0xA5], [9]);
     let planned = grid_plan(2, 2, 1, &[1, 2], &[0; 2], &[0; 2], &mut counters);
-    assert_eq!((planned, counters), (Ok(answer(0, 0, 0)), [0]));
+    assert_eq!((planned, counters), (Ok(accepted(0, 0, 0)), [0]));
     let stored = grid_store(2, 2, 1, &[1, 2], &[0; 2], &[0; 2], &counters, &mut cells);
     assert_eq!((stored, cells), (planned, [1, 2]));
     let planned = grid_plan(1, 1, 1, &[1], &[1], &[0], &mut counters);
-    assert_eq!((planned, counters), (Ok(answer(0, 1, 1)), [3]));
+    assert_eq!((planned, counters), (Ok(accepted(1, 1, 0)), [3]));
     let stored = grid_store(1, 1, 1, &[1], &[1], &[0], &counters, &mut cells[..1]);
     assert_eq!((stored, cells[0]), (planned, 0));
     assert_eq!(
@@ -246,14 +261,14 @@ fn store_g3(counters: &[u8], words: usize) -> (Result<GridAnswer, Refusal>, Vec<
 #[test]
 fn other_counters() {
     // Rows 3 and 1, columns 3 and 2: they mask the faults too.
-    assert_eq!(store_g3(&[0xB7], 2), (Ok(answer(0, 3, 3)), vec![1, 3]));
+    assert_eq!(store_g3(&[0xB7], 2), (Ok(accepted(3, 2, 1)), vec![1, 3]));
     for (counters, words, number) in [
         (&[0][..], 2, MISREAD),
         (&[0x92], 2, MISREAD),
         (&[0x96], 1, WRONG_LENGTH),
         (&[0x96, 0], 2, WRONG_LENGTH),
     ] {
-        let refused = Answer::GridStore(answer(number, 0, 0));
+        let refused = Answer::GridStore(refused(number));
         assert_eq!(
             store_g3(counters, words),
             (Err(Refusal { answer: refused }), vec![9; words])

@@ -72,6 +72,14 @@ fn make_pointer_read(call: &mut PointerRead) -> Outcome {
     }
 }
 
+/// The outcome of a grid plan or a grid store.
+fn grid_outcome(answer: grid::Answer) -> Outcome {
+    Outcome {
+        number: answer.number,
+        counts: vec![answer.levels, answer.stuck, answer.wrong, answer.right],
+    }
+}
+
 /// Makes a grid plan and checks it.
 fn make_grid_plan(call: &mut GridPlan) -> Result<Outcome, String> {
     let answer = grid::plan(
@@ -82,10 +90,7 @@ fn make_grid_plan(call: &mut GridPlan) -> Result<Outcome, String> {
         &mut call.counters,
     );
     check_grid::check_plan(call, answer)?;
-    Ok(Outcome {
-        number: answer.number,
-        counts: vec![answer.levels, answer.stuck],
-    })
+    Ok(grid_outcome(answer))
 }
 
 /// Makes a grid store and checks it.
@@ -99,10 +104,7 @@ fn make_grid_store(call: &mut GridStore) -> Result<Outcome, String> {
         &mut call.cells,
     );
     check_grid::check_store(call, answer)?;
-    Ok(Outcome {
-        number: answer.number,
-        counts: vec![answer.levels, answer.stuck],
-    })
+    Ok(grid_outcome(answer))
 }
 
 /// Makes a grid read.

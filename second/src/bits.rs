@@ -17,7 +17,7 @@ pub fn set_bit_of_bytes(bytes: &mut [u8], position: usize, value: bool) {
 
 /// The fewest bytes that hold so many bits.
 pub fn bytes_that_hold(bits: usize) -> usize {
-    if bits % 8 == 0 {
+    if bits.is_multiple_of(8) {
         bits / 8
     } else {
         bits / 8 + 1

@@ -3,7 +3,7 @@
 
 use crate::cases_pointer::Case;
 use crate::grid_case::{block, plan, plan_over, read, store, store_over, stuck};
-use crate::{cases_edges, cases_foreign};
+use crate::{cases_counts, cases_edges, cases_foreign};
 
 /// G1 and G2: no stuck cell, and one.
 fn one_and_two() -> Vec<Case> {
@@ -79,7 +79,7 @@ fn six_to_eight() -> Vec<Case> {
     ]
 }
 
-/// All the grid cases: document 01's in its order, the edges, and stores with foreign counters.
+/// All the grid cases: document 01's in its order, the edges, stores with foreign counters, and the fault counts.
 pub fn all() -> Vec<Case> {
     [
         one_and_two(),
@@ -87,6 +87,7 @@ pub fn all() -> Vec<Case> {
         six_to_eight(),
         cases_edges::all(),
         cases_foreign::all(),
+        cases_counts::all(),
     ]
     .concat()
 }

@@ -1,4 +1,4 @@
-//! Checks grid plans and stores a second way: chains in place of levels, and reading back.
+//! Checks grid plans and stores a second way: chains in place of levels, reading back, and words in place of cells.
 
 use crate::bits::{bit_of_word, bytes_that_hold};
 use crate::call::{GridPlan, GridStore};
@@ -7,13 +7,43 @@ use crate::counters::{counter_width, stored_counter};
 use crate::grid::{self, Answer};
 use crate::levels::states;
 
-/// Checks a plan already made: refusal 7 and L by chains, and the counters of an accepted one by a store with them.
+/// Checks a plan already made: refusal 7 and L by chains, and of an accepted one its counts, and its counters by a
+/// store with them.
 pub fn check_plan(call: &GridPlan, answer: Answer) -> Result<(), String> {
     if answer.number == 0 || answer.number == 7 {
         check_by_chains(call, answer)?;
     }
     if answer.number == 0 {
+        check_fault_counts([&call.data, &call.mask, &call.values], answer)?;
+        check_bounds_of_levels(call, answer)?;
         try_store(call, answer)?;
+    }
+    Ok(())
+}
+
+/// Wrong and right stuck cells are together F, and the words of data and values differ at as many stuck cells as are
+/// wrong.
+fn check_fault_counts(block: [&[u64]; 3], answer: Answer) -> Result<(), String> {
+    let [data, mask, values] = block;
+    let mut differing = 0;
+    for row in 0..data.len() {
+        differing += ((data[row] ^ values[row]) & mask[row]).count_ones();
+    }
+    if answer.wrong + answer.right != answer.stuck || answer.wrong != differing as usize {
+        return Err(format!(
+            "data and values differ at {differing} stuck cells, and the answer is {answer:?}"
+        ));
+    }
+    Ok(())
+}
+
+/// L of an accepted plan is at most the number of wrong cells, and at most one more than that of right ones: the
+/// 2L - 1 cells of a chain are all different where no chain goes round, and every second one is wrong.
+fn check_bounds_of_levels(call: &GridPlan, answer: Answer) -> Result<(), String> {
+    if answer.levels > answer.wrong || answer.levels > answer.right + 1 {
+        return Err(format!(
+            "L is above the wrong cells, or above the right ones and one more: {answer:?} of {call:x?}"
+        ));
     }
     Ok(())
 }
@@ -37,7 +67,7 @@ fn check_by_chains(call: &GridPlan, answer: Answer) -> Result<(), String> {
     Ok(())
 }
 
-/// Makes a store with the counters of an accepted plan: it has to be accepted with the same L and F and to read back.
+/// Makes a store with the counters of an accepted plan: it has to be accepted with the same counts and to read back.
 fn try_store(call: &GridPlan, planned: Answer) -> Result<(), String> {
     let mut store = GridStore {
         numbers: call.numbers,
@@ -69,6 +99,7 @@ pub fn check_store(call: &GridStore, answer: Answer) -> Result<(), String> {
         0 => {
             check_stuck_cells(call)?;
             check_reading(call)?;
+            check_fault_counts([&call.data, &call.mask, &call.values], answer)?;
             check_counts(call, answer)
         }
         13 if !has_misreading_cell(call) => Err(String::from(

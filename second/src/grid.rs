@@ -1,19 +1,23 @@
 //! Grid blocks: a grid of cells with one counter for each row and each column (document 01, "Grid blocks"), whose
-//! write is a plan and a store (document 02, A7).
+//! write is a plan and a store (document 02, A7), which count the wrong and the right stuck cells apart (A9).
 
 use crate::bits::{bit_of_word, bytes_that_hold, has_bit_past, has_spare_bit, word_of};
 use crate::counters::{
     counter_bits, greatest_counter, is_inverted, judged_shape, packed_counters, unpacked_counters,
     Counters, Shape,
 };
+use crate::fault_counts::{right_cells, stuck_cells, wrong_cells};
 use crate::levels::{states, take_levels};
 
-/// What a plan or a store answers: 0 or the refusal, L (the levels used, the greatest counter), and the stuck cells F.
+/// What a plan or a store answers: 0 or the refusal, L (the levels used, the greatest counter), the stuck cells F, and
+/// those of them that are wrong and right for the data.
 #[derive(Clone, Copy, Debug, PartialEq, Eq)]
 pub struct Answer {
     pub number: u8,
     pub levels: usize,
     pub stuck: usize,
+    pub wrong: usize,
+    pub right: usize,
 }
 
 /// The answer of a refusal: every count is 0.
@@ -22,20 +26,20 @@ fn refused(number: u8) -> Answer {
         number,
         levels: 0,
         stuck: 0,
+        wrong: 0,
+        right: 0,
     }
 }
 
-/// F: the number of ones in the mask words.
-fn stuck_cells(mask: &[u64]) -> usize {
-    let mut stuck = 0;
-    for word in mask {
-        for bit in 0..64 {
-            if bit_of_word(*word, bit) {
-                stuck += 1;
-            }
-        }
+/// The answer of a plan or a store that is accepted: its L, and the counts of the block's stuck cells.
+fn accepted(levels: usize, shape: Shape, data: &[u64], mask: &[u64], values: &[u64]) -> Answer {
+    Answer {
+        number: 0,
+        levels,
+        stuck: stuck_cells(mask),
+        wrong: wrong_cells(shape.columns, data, mask, values),
+        right: right_cells(shape.columns, data, mask, values),
     }
-    stuck
 }
 
 /// Refusal 2: a buffer of words has not one word a row, or the counters have not the bytes that hold them.
@@ -86,16 +90,12 @@ fn planned(
     judge_words(shape, &[data, mask, values])?;
     let grid = states(shape.columns, data, mask, values);
     let (levels, counters) = take_levels(shape, &grid)?;
-    let answer = Answer {
-        number: 0,
-        levels,
-        stuck: stuck_cells(mask),
-    };
+    let answer = accepted(levels, shape, data, mask, values);
     Ok((packed_counters(shape, &counters), answer))
 }
 
-/// The grid plan for the numbers rows, columns and K: fills the counters if it accepts; after a refusal L and F are 0
-/// and nothing is altered.
+/// The grid plan for the numbers rows, columns and K: fills the counters if it accepts; after a refusal every count
+/// is 0 and nothing is altered.
 pub fn plan(
     numbers: [u64; 3],
     data: &[u64],
@@ -141,10 +141,10 @@ fn stored_cells(
 /// What a read of cells with these counters shows.
 fn shown_cells(shape: Shape, cells: &[u64], counters: &Counters) -> Vec<u64> {
     let mut shown = Vec::new();
-    for row in 0..shape.rows {
+    for (row, word) in cells.iter().enumerate() {
         let mut line = Vec::new();
         for column in 0..shape.columns {
-            let bit = bit_of_word(cells[row], column);
+            let bit = bit_of_word(*word, column);
             line.push(if is_inverted(counters, row, column) {
                 !bit
             } else {
@@ -186,16 +186,12 @@ fn to_store(
     let cells = stored_cells(shape, data, mask, values, &counters);
     let shown = shown_cells(shape, &cells, &counters);
     judge_stuck_cells(shape, data, mask, &shown)?;
-    let answer = Answer {
-        number: 0,
-        levels: greatest_counter(&counters),
-        stuck: stuck_cells(mask),
-    };
-    Ok((cells, answer))
+    let levels = greatest_counter(&counters);
+    Ok((cells, accepted(levels, shape, data, mask, values)))
 }
 
 /// The grid store for the numbers rows, columns and K, with counters of any origin: fills the cells if it accepts;
-/// after a refusal L and F are 0 and nothing is altered.
+/// after a refusal every count is 0 and nothing is altered.
 pub fn store(
     numbers: [u64; 3],
     data: &[u64],

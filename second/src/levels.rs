@@ -63,14 +63,14 @@ pub fn take_levels(shape: Shape, grid: &[Vec<State>]) -> Result<(usize, Counters
             return Err(7);
         }
         levels += 1;
-        for row in 0..shape.rows {
-            if taken_rows[row] {
-                counters.rows[row] += 1;
+        for (counter, taken) in counters.rows.iter_mut().zip(&taken_rows) {
+            if *taken {
+                *counter += 1;
             }
         }
-        for column in 0..shape.columns {
-            if taken_columns[column] {
-                counters.columns[column] += 1;
+        for (counter, taken) in counters.columns.iter_mut().zip(&taken_columns) {
+            if *taken {
+                *counter += 1;
             }
         }
         subgrid_rows = taken_rows;

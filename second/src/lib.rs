@@ -4,6 +4,7 @@
 pub mod answer;
 pub mod bits;
 pub mod call;
+pub mod cases_counts;
 pub mod cases_edges;
 pub mod cases_foreign;
 pub mod cases_grid;
@@ -14,6 +15,7 @@ pub mod counters;
 pub mod damage;
 pub mod damage_grid;
 pub mod damage_pointer;
+pub mod fault_counts;
 pub mod faults;
 pub mod grid;
 pub mod grid_case;

@@ -1,9 +1,9 @@
-//! The grid cases come out as written: each line below was derived by hand from document 01 and document 02, A7.
+//! The grid cases come out as written: each line below was derived by hand from document 01 and document 02, A7 and A9.
 
 mod lines;
 
 use lines::{check, junk};
-use second::{cases_edges, cases_foreign, cases_grid};
+use second::{cases_counts, cases_edges, cases_foreign, cases_grid};
 
 /// Words of one hex digit each, as they print.
 fn words(digits: &str) -> String {
@@ -25,75 +25,83 @@ fn with_words(lines: &[(&'static str, &str, &str)]) -> Vec<(&'static str, String
 fn the_cases_of_document_01_come_out_as_written() {
     let two = junk(16);
     let lines = [
-        ("G1", String::from("0 0 0 00")),
-        ("G1 store", format!("0 0 0 {}", words("12"))),
+        ("G1", String::from("0 0 0 0 0 00")),
+        ("G1 store", format!("0 0 0 0 0 {}", words("12"))),
         ("G1 read", format!("0 {}", words("12"))),
-        ("G1, values at sound cells", String::from("0 0 0 00")),
+        ("G1, values at sound cells", String::from("0 0 0 0 0 00")),
         (
             "G1 store, values at sound cells",
-            format!("0 0 0 {}", words("12")),
+            format!("0 0 0 0 0 {}", words("12")),
         ),
-        ("G1, old counters ff", String::from("0 0 0 00")),
+        ("G1, old counters ff", String::from("0 0 0 0 0 00")),
         (
             "G1 store, old cells all ones",
-            format!("0 0 0 {}", words("12")),
+            format!("0 0 0 0 0 {}", words("12")),
         ),
         ("G1 read, cells past the columns", format!("3 {two}")),
         ("G1 read, spare bit 1", format!("3 {two}")),
-        ("G2", String::from("0 1 1 03")),
-        ("G2 store", format!("0 1 1 {}", words("0"))),
+        ("G2", String::from("0 1 1 1 0 03")),
+        ("G2 store", format!("0 1 1 1 0 {}", words("0"))),
         ("G2 read", format!("0 {}", words("1"))),
-        ("G2, stuck at 1", String::from("0 0 1 00")),
-        ("G2 store, stuck at 1", format!("0 0 1 {}", words("1"))),
+        ("G2, stuck at 1", String::from("0 0 1 0 1 00")),
+        ("G2 store, stuck at 1", format!("0 0 1 0 1 {}", words("1"))),
         ("G2 read, spare bit 1", format!("3 {}", junk(8))),
         ("G2 read, row counter alone", format!("0 {}", words("0"))),
-        ("G3", String::from("0 2 3 96")),
-        ("G3 store", format!("0 2 3 {}", words("13"))),
+        ("G3", String::from("0 2 3 2 1 96")),
+        ("G3 store", format!("0 2 3 2 1 {}", words("13"))),
         ("G3 read", format!("0 {}", words("00"))),
-        ("G3 with K = 2", String::from("0 2 3 96")),
-        ("G3 store with K = 2", format!("0 2 3 {}", words("13"))),
-        ("G4", String::from("7 0 0 a5")),
-        ("G4 without its right cell", String::from("0 1 2 0f")),
+        ("G3 with K = 2", String::from("0 2 3 2 1 96")),
+        ("G3 store with K = 2", format!("0 2 3 2 1 {}", words("13"))),
+        ("G4", String::from("7 0 0 0 0 a5")),
+        ("G4 without its right cell", String::from("0 1 2 2 0 0f")),
         (
             "G4 store without its right cell",
-            format!("0 1 2 {}", words("33")),
+            format!("0 1 2 2 0 {}", words("33")),
         ),
-        ("G5, K = 1", String::from("7 0 0 a5")),
-        ("G5, K = 2", String::from("7 0 0 a5")),
-        ("G5, K = 3", String::from("7 0 0 a5")),
-        ("G6, K = 3", String::from("0 3 5 5e0b")),
-        ("G6 store", format!("0 3 5 {}", words("137"))),
+        ("G5, K = 1", String::from("7 0 0 0 0 a5")),
+        ("G5, K = 2", String::from("7 0 0 0 0 a5")),
+        ("G5, K = 3", String::from("7 0 0 0 0 a5")),
+        ("G6, K = 3", String::from("0 3 5 3 2 5e0b")),
+        ("G6 store", format!("0 3 5 3 2 {}", words("137"))),
         ("G6 read", format!("0 {}", words("000"))),
         ("G6 read, spare bit 1", format!("3 {}", junk(24))),
-        ("G6, K = 2", String::from("7 0 0 a5a5")),
-        ("G6, K = 1", String::from("7 0 0 a5")),
-        ("G7", String::from("7 0 0 a5a5")),
-        ("G7 without (3,3)", String::from("0 3 6 1e2d")),
-        ("G7 store without (3,3)", format!("0 3 6 {}", words("1370"))),
-        ("G8", String::from("0 1 3 09")),
-        ("G8 store", format!("0 1 3 {}", words("20"))),
+        ("G6, K = 2", String::from("7 0 0 0 0 a5a5")),
+        ("G6, K = 1", String::from("7 0 0 0 0 a5")),
+        ("G7", String::from("7 0 0 0 0 a5a5")),
+        ("G7 without (3,3)", String::from("0 3 6 3 3 1e2d")),
+        (
+            "G7 store without (3,3)",
+            format!("0 3 6 3 3 {}", words("1370")),
+        ),
+        ("G8", String::from("0 1 3 1 2 09")),
+        ("G8 store", format!("0 1 3 1 2 {}", words("20"))),
         ("G8 read", format!("0 {}", words("00"))),
     ];
-    let edges = cases_edges::all().len() + cases_foreign::all().len();
+    let others = [
+        cases_edges::all(),
+        cases_foreign::all(),
+        cases_counts::all(),
+    ]
+    .concat();
     let all = cases_grid::all();
-    check(&all[..all.len() - edges], &lines);
+    check(&all[..all.len() - others.len()], &lines);
 }
 
 #[test]
 fn the_edges_come_out_as_written() {
     let one = junk(8);
     let two = junk(16);
-    let plan_refused = |number: u8| format!("{number} 0 0 a5");
-    let store_refused = |number: u8| format!("{number} 0 0 {two}");
-    let short = |digits: &str| format!("2 0 0 {}", words(digits));
+    let plan_refused = |number: u8| format!("{number} 0 0 0 0 a5");
+    let store_refused = |number: u8| format!("{number} 0 0 0 0 {two}");
+    let short = |digits: &str| format!("2 0 0 0 0 {}", words(digits));
     let lines = [
         ("G9, K = 0", plan_refused(1)),
-        ("G9, K = 1", String::from("0 0 0 00")),
-        ("G9, K = 3", String::from("0 0 0 00")),
+        ("G9, K = 1", String::from("0 0 0 0 0 00")),
+        ("G9, K = 3", String::from("0 0 0 0 0 00")),
         ("G9, K = 4", plan_refused(1)),
         ("G9 store, K = 0", store_refused(1)),
-        ("G9 store, K = 1", format!("0 0 0 {}", words("12"))),
-        ("G9 store, K = 3", format!("0 0 0 {}", words("12"))),
+        ("G9 store, K = 1", format!("0 0 0 0 0 {}", words("12"))),
+        ("G9 store, K = 3", format!("0 0 0 0 0 {}", words("12"))),
         ("G9 store, K = 4", store_refused(1)),
         ("G9 read, K = 0", format!("1 {two}")),
         ("G9 read, K = 1", format!("0 {}", words("12"))),
@@ -117,25 +125,25 @@ fn the_edges_come_out_as_written() {
         ("G10, K = 3, counters 3", format!("0 {}", words("21"))),
         (
             "G10 store, K = 2, row counter 2",
-            format!("0 2 0 {}", words("21")),
+            format!("0 2 0 0 0 {}", words("21")),
         ),
         ("G10 store, K = 2, row counter 3", store_refused(4)),
         (
             "G10 store, K = 3, row counter 3",
-            format!("0 3 0 {}", words("21")),
+            format!("0 3 0 0 0 {}", words("21")),
         ),
         (
             "G10 store, K = 2, column counter 2",
-            format!("0 2 0 {}", words("12")),
+            format!("0 2 0 0 0 {}", words("12")),
         ),
         ("G10 store, K = 2, column counter 3", store_refused(4)),
         (
             "G10 store, K = 2, counters 2",
-            format!("0 2 0 {}", words("12")),
+            format!("0 2 0 0 0 {}", words("12")),
         ),
         (
             "G10 store, K = 3, counters 3",
-            format!("0 3 0 {}", words("21")),
+            format!("0 3 0 0 0 {}", words("21")),
         ),
         ("G1, data past the columns", plan_refused(3)),
         ("G1, mask past the columns", plan_refused(3)),
@@ -145,20 +153,20 @@ fn the_edges_come_out_as_written() {
         ("G1 store, values past the columns", store_refused(3)),
         ("G1 store, spare bit 1", store_refused(3)),
         ("G1 store, last spare bit 1", store_refused(3)),
-        ("G2 store, spare bit 1", format!("3 0 0 {one}")),
+        ("G2 store, spare bit 1", format!("3 0 0 0 0 {one}")),
         (
             "64 columns, last cell wrong",
-            String::from("0 1 1 010000000000000001"),
+            String::from("0 1 1 1 0 010000000000000001"),
         ),
-        ("64 columns, store", format!("0 1 1 {}", words("0"))),
+        ("64 columns, store", format!("0 1 1 1 0 {}", words("0"))),
         ("G1, data one word short", plan_refused(2)),
         ("G1, data one word long", plan_refused(2)),
         ("G1, mask one word short", plan_refused(2)),
         ("G1, mask one word long", plan_refused(2)),
         ("G1, values one word short", plan_refused(2)),
         ("G1, values one word long", plan_refused(2)),
-        ("G1, counters one byte short", String::from("2 0 0 -")),
-        ("G1, counters one byte long", String::from("2 0 0 a5a5")),
+        ("G1, counters one byte short", String::from("2 0 0 0 0 -")),
+        ("G1, counters one byte long", String::from("2 0 0 0 0 a5a5")),
         ("G1 store, data one word short", short("99")),
         ("G1 store, data one word long", short("99")),
         ("G1 store, mask one word short", short("99")),
@@ -169,14 +177,17 @@ fn the_edges_come_out_as_written() {
         ("G1 store, counters one byte long", short("99")),
         ("G1 store, cells one word short", short("9")),
         ("G1 store, cells one word long", short("999")),
-        ("G1 store, no buffer has anything", String::from("2 0 0 -")),
-        ("1 before 2, 3 and 4", format!("1 0 0 {}", words("9"))),
+        (
+            "G1 store, no buffer has anything",
+            String::from("2 0 0 0 0 -"),
+        ),
+        ("1 before 2, 3 and 4", format!("1 0 0 0 0 {}", words("9"))),
         ("2 before 3, 4 and 13", short("9")),
         ("3 before 4 and 13", store_refused(3)),
         ("4 before 13", store_refused(4)),
         ("13 alone", store_refused(13)),
-        ("Plan, 1 before 2 and 3", String::from("1 0 0 -")),
-        ("Plan, 2 before 3", String::from("2 0 0 a5a5")),
+        ("Plan, 1 before 2 and 3", String::from("1 0 0 0 0 -")),
+        ("Plan, 2 before 3", String::from("2 0 0 0 0 a5a5")),
         ("Plan, 3 before 7", plan_refused(3)),
     ];
     check(&cases_edges::all(), &lines);
@@ -185,35 +196,39 @@ fn the_edges_come_out_as_written() {
 #[test]
 fn stores_with_foreign_counters_come_out_as_written() {
     let refused = |name: &'static str, number: u8, rows: usize| {
-        vec![(name, format!("{number} 0 0 {}", junk(8 * rows)))]
+        vec![(name, format!("{number} 0 0 0 0 {}", junk(8 * rows)))]
     };
     let lines = [
         with_words(&[
-            ("G1 store, all counters 1", "0 1 0", "21"),
-            ("G1 store, first row alone", "0 1 0", "12"),
-            ("G1 store, last row alone", "0 1 0", "12"),
-            ("G1 store, first column alone", "0 1 0", "12"),
-            ("G1 store, last column alone", "0 1 0", "12"),
-            ("G1 store, one cell inverted", "0 1 0", "02"),
-            ("G1 store, K = 2, row counter 2 alone", "0 2 0", "12"),
-            ("G1 store, K = 2, column counter 2 alone", "0 2 0", "12"),
-            ("G1 store, K = 3, row counter 3 alone", "0 3 0", "12"),
-            ("G1 store, K = 3, column counter 3 alone", "0 3 0", "12"),
-            ("G1 store, K = 3, row 3 and columns 1", "0 3 0", "22"),
-            ("G1 store, K = 3, row 2 and columns 3", "0 3 0", "12"),
+            ("G1 store, all counters 1", "0 1 0 0 0", "21"),
+            ("G1 store, first row alone", "0 1 0 0 0", "12"),
+            ("G1 store, last row alone", "0 1 0 0 0", "12"),
+            ("G1 store, first column alone", "0 1 0 0 0", "12"),
+            ("G1 store, last column alone", "0 1 0 0 0", "12"),
+            ("G1 store, one cell inverted", "0 1 0 0 0", "02"),
+            ("G1 store, K = 2, row counter 2 alone", "0 2 0 0 0", "12"),
+            ("G1 store, K = 2, column counter 2 alone", "0 2 0 0 0", "12"),
+            ("G1 store, K = 3, row counter 3 alone", "0 3 0 0 0", "12"),
+            ("G1 store, K = 3, column counter 3 alone", "0 3 0 0 0", "12"),
+            ("G1 store, K = 3, row 3 and columns 1", "0 3 0 0 0", "22"),
+            ("G1 store, K = 3, row 2 and columns 3", "0 3 0 0 0", "12"),
         ]),
         refused("G2 store, all counters 0", 13, 1),
         refused("G2 store, row counter alone", 13, 1),
         refused("G2 store, column counter alone", 13, 1),
         with_words(&[
-            ("G2 store, stuck at 1, row counter alone", "0 1 1", "1"),
-            ("G2 store, stuck at 1, column counter alone", "0 1 1", "1"),
+            ("G2 store, stuck at 1, row counter alone", "0 1 1 0 1", "1"),
+            (
+                "G2 store, stuck at 1, column counter alone",
+                "0 1 1 0 1",
+                "1",
+            ),
         ]),
         refused("G2 store, stuck at 1, both counters", 13, 1),
         refused("G3 store, all counters 0", 13, 2),
         with_words(&[
-            ("G3 store, row 0 raised to 3", "0 3 3", "13"),
-            ("G3 store, column 1 raised to 3", "0 3 3", "13"),
+            ("G3 store, row 0 raised to 3", "0 3 3 2 1", "13"),
+            ("G3 store, column 1 raised to 3", "0 3 3 2 1", "13"),
         ]),
         refused("G3 store, row 1 raised to 2", 13, 2),
         refused("G3 store, all counters 3", 13, 2),

@@ -7,7 +7,7 @@ use second::cases_pointer;
 
 /// A row of zero bytes but for the given places.
 fn row(others: &[(usize, u8)]) -> String {
-    let mut bytes = vec![0; 64];
+    let mut bytes = [0; 64];
     for (place, byte) in others {
         bytes[*place] = *byte;
     }

@@ -12,7 +12,7 @@ fn plan_of(pattern: usize, rows: usize, columns: usize, most_levels: usize) -> G
     let mut rest = pattern;
     for row in 0..rows {
         for column in 0..columns {
-            if rest % 3 != 0 {
+            if !rest.is_multiple_of(3) {
                 mask[row] |= 1 << column;
             }
             if rest % 3 == 2 {

@@ -51,6 +51,33 @@ fn calls_print_one_line_each() {
     assert_eq!(printed(&twice), line.repeat(2));
 }
 
+/// The plan or the store of one cell that is stuck at 0, data 1, K = 1, with these counters: the bytes, written out.
+fn one_cell_stuck(tag: u8, counters: u8) -> Vec<u8> {
+    let mut bytes = vec![tag];
+    for number in [1u8, 1, 1] {
+        bytes.extend([number, 0, 0, 0, 0, 0, 0, 0]);
+    }
+    for word in [1u8, 1, 0] {
+        bytes.extend([1, 0, word, 0, 0, 0, 0, 0, 0, 0]);
+    }
+    bytes.extend([1, 0, counters]);
+    if tag == 5 {
+        bytes.extend([1, 0, 0, 0, 0, 0, 0, 0, 0, 0]);
+    }
+    bytes
+}
+
+#[test]
+fn plans_and_stores_print_four_counts() {
+    let plan = one_cell_stuck(3, 0);
+    let store = one_cell_stuck(5, 3);
+    assert_eq!((plan.len(), store.len()), (58, 68));
+    assert_eq!(printed(&plan), "0 1 1 1 0 03\n");
+    assert_eq!(printed(&store), "0 1 1 1 0 0000000000000000\n");
+    let refused = one_cell_stuck(5, 1);
+    assert_eq!(printed(&refused), "13 0 0 0 0 0000000000000000\n");
+}
+
 #[test]
 fn bad_calls_stop_the_run() {
     let good = one_cell_read();
@@ -111,7 +138,7 @@ fn made_calls_run_to_the_end() {
 #[test]
 fn cases_run_to_the_end() {
     let cases = second(&["cases"], &[]).stdout;
-    assert_eq!(printed(&cases).lines().count(), 60 + 147);
+    assert_eq!(printed(&cases).lines().count(), 60 + 182);
 }
 
 #[test]

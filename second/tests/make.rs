@@ -1,5 +1,7 @@
-//! What the maker makes: the same calls for the same seed, every answer often enough, and calls of low mean size.
+//! What the maker makes: the same calls for the same seed, every answer often enough, levels at their bounds, and calls
+//! of low mean size.
 
+use std::cmp::Ordering;
 use std::collections::BTreeMap;
 
 use second::answer;
@@ -39,8 +41,8 @@ fn tag(call: &Call) -> usize {
     }
 }
 
-/// Checks that what a refused call was lent is unaltered, and that an accepted pointer write keeps the
-/// entries that were active and counts those that are stored.
+/// Checks that what a refused call was lent is unaltered and that its counts are 0, and that an accepted pointer write
+/// keeps the entries that were active and counts those that are stored.
 fn check_outcome(before: &Call, after: &Call, outcome: &answer::Outcome) {
     if outcome.number != 0 {
         assert_eq!(before, after);
@@ -183,4 +185,35 @@ fn stores_have_counters_of_every_origin() {
     ];
     assert_eq!(origins.keys().copied().collect::<Vec<_>>(), expected);
     assert!(origins.values().all(|count| *count >= 40));
+}
+
+#[test]
+fn levels_reach_their_bounds_and_only_stores_pass_them() {
+    let bytes = bytes_of(3, COUNT);
+    let mut input = bytes.as_slice();
+    let mut stands = BTreeMap::new();
+    while let Some(mut call) = next_call(&mut input).unwrap() {
+        let outcome = answer::make(&mut call).unwrap();
+        if let (Call::GridPlan(_) | Call::GridStore(_), 0) = (&call, outcome.number) {
+            let [levels, stuck, wrong, right] = outcome.counts[..] else {
+                panic!("a plan and a store have four counts");
+            };
+            assert_eq!(wrong + right, stuck);
+            let by_wrong = (tag(&call), "wrong cells", levels.cmp(&wrong));
+            let by_right = (tag(&call), "right cells and 1", levels.cmp(&(right + 1)));
+            *stands.entry(by_wrong).or_insert(0) += 1;
+            *stands.entry(by_right).or_insert(0) += 1;
+        }
+    }
+    for ((tag, bound, stand), count) in &stands {
+        println!("tag {tag}, L and its {bound}: {stand:?}, {count}");
+    }
+    for bound in ["wrong cells", "right cells and 1"] {
+        for tag in [3, 5] {
+            assert!(stands[&(tag, bound, Ordering::Less)] >= 500);
+            assert!(stands[&(tag, bound, Ordering::Equal)] >= 500);
+        }
+        assert!(!stands.contains_key(&(3, bound, Ordering::Greater)));
+        assert!(stands[&(5, bound, Ordering::Greater)] >= 100);
+    }
 }

@@ -1,5 +1,5 @@
 //! Stores of all small blocks with all counters: 13 exactly where a stuck cell's bit, as the counters invert it, is not
-//! its data bit, and L is the greatest counter, none below that of the plan.
+//! its data bit; L is the greatest counter, none below that of the plan; wrong and right cells are counted apart.
 
 use second::answer;
 use second::call::{Call, GridPlan, GridStore};
@@ -82,15 +82,19 @@ fn check(
         unreachable!()
     };
     if misread {
-        assert_eq!((outcome.number, outcome.counts), (13, vec![0, 0]));
+        assert_eq!((outcome.number, outcome.counts), (13, vec![0; 4]));
         assert_eq!(after.cells, vec![u64::MAX; rows]);
     } else {
         let greatest = *counters.iter().max().unwrap();
-        let faults = stuck.iter().filter(|cell| **cell).count();
-        assert_eq!(
-            (outcome.number, outcome.counts),
-            (0, vec![greatest, faults])
-        );
+        // A stuck cell has the digit 1 or 2, one more than its value.
+        let wrong = (0..cells.len())
+            .filter(|place| cells[*place] == 2 - data[*place])
+            .count();
+        let right = (0..cells.len())
+            .filter(|place| cells[*place] == 1 + data[*place])
+            .count();
+        let counts = vec![greatest, wrong + right, wrong, right];
+        assert_eq!((outcome.number, outcome.counts), (0, counts));
         assert_eq!(after.cells, words(&stored, columns));
         assert!(planned_levels(&after) <= greatest);
     }

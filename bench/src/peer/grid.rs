@@ -4,8 +4,8 @@ use super::counters::{
     bytes_of, column_sets, greatest, has_spare, has_three, inverted_rows, load_double, load_single,
     store_double, store_single, store_zeros,
 };
-use super::levels::{levels_of, rows_with_any, Block};
-use super::{refused, CountedAnswer};
+use super::levels::{levels_of, rows_with_any, Block, Stuck};
+use crate::answers::{Answer, GridAnswer};
 
 /// Whether rows, columns or K lie outside their range; 0 wraps round to the largest number.
 #[inline(always)]
@@ -24,6 +24,18 @@ fn has_bit_past(columns: usize, block: Block) -> bool {
     all >> columns != 0
 }
 
+/// The answer of a plan or a store that is accepted; where a cell is stuck and not wrong, it is right.
+#[inline(always)]
+fn accepted(levels: usize, stuck: Stuck) -> GridAnswer {
+    GridAnswer {
+        number: 0,
+        levels,
+        faults: stuck.all,
+        wrong: stuck.wrong,
+        right: stuck.all - stuck.wrong,
+    }
+}
+
 /// The grid plan of documents 01 and 02.
 #[inline(never)]
 pub fn plan(
@@ -34,23 +46,23 @@ pub fn plan(
     mask: &[u64],
     values: &[u64],
     counters: &mut [u8],
-) -> CountedAnswer {
+) -> GridAnswer {
     if outside(rows, columns, k) {
-        return refused(1);
+        return GridAnswer::refused(1);
     }
     let lengths_differ = data.len() != rows
         || mask.len() != rows
         || values.len() != rows
         || counters.len() != bytes_of(rows, columns, k);
     if lengths_differ {
-        return refused(2);
+        return GridAnswer::refused(2);
     }
     let block = Block { data, mask, values };
     if has_bit_past(columns, block) {
-        return refused(3);
+        return GridAnswer::refused(3);
     }
     let Some(levels) = levels_of(k, block) else {
-        return refused(7);
+        return GridAnswer::refused(7);
     };
     let [first, second, third] = levels.sets;
     if first[1] == 0 {
@@ -64,27 +76,25 @@ pub fn plan(
         ];
         store_double(rows, low, second, counters);
     }
-    CountedAnswer {
-        number: 0,
-        counts: [levels.count(), levels.faults],
-    }
+    accepted(levels.count(), levels.stuck)
 }
 
 /// The stuck cells of a block whose rows invert what the function says, or nothing if one of them would read wrong.
 #[inline(always)]
-fn masked_faults(block: Block, inverted: impl Fn(usize) -> u64) -> Option<usize> {
+fn masked_faults(block: Block, inverted: impl Fn(usize) -> u64) -> Option<Stuck> {
     let Block { data, mask, values } = block;
-    let mut faults = 0;
+    let mut stuck = Stuck::default();
     let mut misread = 0;
     let mut rest = rows_with_any(mask);
     while rest != 0 {
         let row = rest.trailing_zeros() as usize;
-        misread |= (data[row] ^ values[row] ^ inverted(row)) & mask[row];
-        faults += mask[row].count_ones() as usize;
+        let wrong = (data[row] ^ values[row]) & mask[row];
+        misread |= wrong ^ inverted(row) & mask[row];
+        stuck.add(mask[row], wrong);
         rest &= rest - 1;
     }
     if misread == 0 {
-        Some(faults)
+        Some(stuck)
     } else {
         None
     }
@@ -132,9 +142,9 @@ pub fn store(
     values: &[u64],
     counters: &[u8],
     cells: &mut [u64],
-) -> CountedAnswer {
+) -> GridAnswer {
     if outside(rows, columns, k) {
-        return refused(1);
+        return GridAnswer::refused(1);
     }
     let lengths_differ = data.len() != rows
         || mask.len() != rows
@@ -142,28 +152,25 @@ pub fn store(
         || cells.len() != rows
         || counters.len() != bytes_of(rows, columns, k);
     if lengths_differ {
-        return refused(2);
+        return GridAnswer::refused(2);
     }
     let block = Block { data, mask, values };
     if has_bit_past(columns, block) || has_spare(rows, columns, k, counters) {
-        return refused(3);
+        return GridAnswer::refused(3);
     }
     if k == 1 {
         let (row_set, column_set) = load_single(rows, counters);
         let inverted = |row: usize| column_set & (row_set >> row & 1).wrapping_neg();
-        let Some(faults) = masked_faults(block, inverted) else {
-            return refused(13);
+        let Some(stuck) = masked_faults(block, inverted) else {
+            return GridAnswer::refused(13);
         };
         cells.copy_from_slice(data);
         invert_single(row_set, column_set, cells);
-        return CountedAnswer {
-            number: 0,
-            counts: [usize::from(row_set | column_set != 0), faults],
-        };
+        return accepted(usize::from(row_set | column_set != 0), stuck);
     }
     let words = load_double(counters);
     if k == 2 && has_three(words) {
-        return refused(4);
+        return GridAnswer::refused(4);
     }
     let rows_inverted = inverted_rows(rows, words);
     let inverted = if rows_inverted == [0, 0] {
@@ -172,15 +179,12 @@ pub fn store(
         inverted_by(rows, columns, words)
     };
     let of_row = |row: usize| inverted[(words[row >> 5 & 1] >> ((2 * row) & 63) & 3) as usize];
-    let Some(faults) = masked_faults(block, of_row) else {
-        return refused(13);
+    let Some(stuck) = masked_faults(block, of_row) else {
+        return GridAnswer::refused(13);
     };
     cells.copy_from_slice(data);
     invert_double(rows_inverted, words, inverted, cells);
-    CountedAnswer {
-        number: 0,
-        counts: [greatest(words), faults],
-    }
+    accepted(greatest(words), stuck)
 }
 
 /// The grid read of document 01.

@@ -8,11 +8,27 @@ pub struct Block<'a> {
     pub values: &'a [u64],
 }
 
+/// How many cells are stuck, and how many of them at the wrong bit.
+#[derive(Default)]
+pub struct Stuck {
+    pub all: usize,
+    pub wrong: usize,
+}
+
+impl Stuck {
+    /// Counts a row whose stuck cells and wrong cells are these: side by side, so that one vector counts both.
+    #[inline(always)]
+    pub fn add(&mut self, mask: u64, wrong: u64) {
+        self.all += mask.count_ones() as usize;
+        self.wrong += wrong.count_ones() as usize;
+    }
+}
+
 /// What the levels took, and how many stuck cells there are.
 pub struct Levels {
     /// The set of rows and the set of columns of each level, empty past the last.
     pub sets: [[u64; 2]; 3],
-    pub faults: usize,
+    pub stuck: Stuck,
 }
 
 impl Levels {
@@ -45,13 +61,13 @@ pub fn rows_with_any(words: &[u64]) -> u64 {
 #[inline(always)]
 pub fn levels_of(k: usize, block: Block) -> Option<Levels> {
     let Block { data, mask, values } = block;
-    let mut faults = 0;
+    let mut stuck = Stuck::default();
     let mut taken = [0; 2];
     let mut rest = rows_with_any(mask);
     while rest != 0 {
         let row = rest.trailing_zeros() as usize;
         let wrong = (data[row] ^ values[row]) & mask[row];
-        faults += mask[row].count_ones() as usize;
+        stuck.add(mask[row], wrong);
         taken[0] |= u64::from(wrong != 0) << row;
         taken[1] |= wrong;
         rest &= rest - 1;
@@ -77,5 +93,5 @@ pub fn levels_of(k: usize, block: Block) -> Option<Levels> {
     if taken[1] != 0 {
         return None;
     }
-    Some(Levels { sets, faults })
+    Some(Levels { sets, stuck })
 }

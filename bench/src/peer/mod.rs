@@ -7,18 +7,3 @@ mod counters;
 pub mod grid;
 mod levels;
 pub mod pointer;
-
-/// What a write, a plan or a store answers: 0 or the refusal; then active and new entries, or levels and stuck cells.
-#[derive(Clone, Copy, Debug, PartialEq, Eq)]
-pub struct CountedAnswer {
-    pub number: usize,
-    pub counts: [usize; 2],
-}
-
-/// The answer of one that is refused: every count is 0.
-fn refused(number: usize) -> CountedAnswer {
-    CountedAnswer {
-        number,
-        counts: [0, 0],
-    }
-}

@@ -1,7 +1,7 @@
 //! The peer's pointer rows: a row as eight words, and its metadata as one double word.
 
 use super::bytes::{load, store};
-use super::{refused, CountedAnswer};
+use crate::answers::{Answer, PointerWriteAnswer};
 
 /// A row of 512 cells as words; position p is bit p mod 64 of word p / 64.
 type Row = [u64; 8];
@@ -60,9 +60,9 @@ pub fn write(
     values: &[u8],
     cells: &mut [u8],
     metadata: &mut [u8],
-) -> CountedAnswer {
+) -> PointerWriteAnswer {
     if n.wrapping_sub(1) > 9 {
-        return refused(1);
+        return PointerWriteAnswer::refused(1);
     }
     let (Ok(data), Ok(mask), Ok(values), Ok(cells)) = (
         <&[u8; 64]>::try_from(data),
@@ -70,15 +70,15 @@ pub fn write(
         <&[u8; 64]>::try_from(values),
         <&mut [u8; 64]>::try_from(cells),
     ) else {
-        return refused(2);
+        return PointerWriteAnswer::refused(2);
     };
     if metadata.len() != metadata_bytes(n) {
-        return refused(2);
+        return PointerWriteAnswer::refused(2);
     }
     let old = load(metadata);
     let active = match active_entries(n, old) {
         Ok(active) => active,
-        Err(number) => return refused(number),
+        Err(number) => return PointerWriteAnswer::refused(number),
     };
 
     let data = row_of(data);
@@ -98,7 +98,7 @@ pub fn write(
         rest >>= 10;
     }
     if twice != 0 {
-        return refused(5);
+        return PointerWriteAnswer::refused(5);
     }
 
     let (mask, values) = (row_of(mask), row_of(values));
@@ -115,7 +115,7 @@ pub fn write(
     if any != 0 {
         new = unserved.iter().map(|word| word.count_ones() as usize).sum();
         if active + new > n {
-            return refused(6);
+            return PointerWriteAnswer::refused(6);
         }
         // The words that still hold an unserved position: one loop over positions, not one in another.
         let mut words = unserved
@@ -146,9 +146,10 @@ pub fn write(
     };
     store_row(cells, stored);
     store(metadata, packed | rest);
-    CountedAnswer {
+    PointerWriteAnswer {
         number: 0,
-        counts: [total, new],
+        active: total,
+        new_entries: new,
     }
 }
 

@@ -254,6 +254,11 @@ lowest-set (suc k) x l h =
     go true e r = let o : x % 2 ≡ 1 = has-first x ∙ ap num e in rw o e
     go false e r = let o : x % 2 ≡ 0 = has-first x ∙ ap num e in rw (o, has-half x) (r (omega arith))
 
+-- it is one of the bits that the number has room for
+pub lowest-below : (n k x : ℕ) → n ≤ k → x < 2 ^ n → x ≢ 0 → trailingZeros k x < n
+lowest-below n k x l h some =
+    ⊎-elim (λ q. q) (λ q. clash (lowest-set k x (lt-of-lt-of-le h (pow-mono l)) some) (has-high n x (trailingZeros k x) h q)) (lt-or-le (trailingZeros k x) n)
+
 pub below-lowest : (k x j : ℕ) → j < trailingZeros k x → has x j ≡ false
 unfolding trailingZeros
 below-lowest zero x j h = absurd (omega arith)

@@ -74,16 +74,26 @@ unfolding sum
 sum-le zero f g h = omega arith
 sum-le (suc n) f g h = omega (arith, h n (omega arith), sum-le n f g (λ k l. h k (omega arith)))
 
--- one more at one place
-pub sum-raise : (n : ℕ) (f g : ℕ → ℕ) (a : ℕ) → a < n → f a ≡ suc (g a) → ((k : ℕ) → k ≢ a → f k ≡ g k) → sum n f ≡ suc (sum n g)
+pub sum-none : (n : ℕ) (f : ℕ → ℕ) → ((k : ℕ) → k < n → f k ≡ 0) → sum n f ≡ 0
 unfolding sum
-sum-raise zero f g a l e h = absurd (omega arith)
-sum-raise (suc n) f g a l e h = go (ℕ-discrete n a) (λ k. sum-raise n f g a k e h)
+sum-none zero f h = refl
+sum-none (suc n) f h = omega (arith, h n (omega arith), sum-none n f (λ k l. h k (omega arith)))
+
+pub sum-add : (n : ℕ) (f g : ℕ → ℕ) → sum n (λ k. f k + g k) ≡ sum n f + sum n g
+unfolding sum
+sum-add zero f g = refl
+sum-add (suc n) f g = omega (arith, sum-add n f g)
+
+-- x more at one place
+pub sum-raise : (n : ℕ) (f g : ℕ → ℕ) (a x : ℕ) → a < n → f a ≡ x + g a → ((k : ℕ) → k ≢ a → f k ≡ g k) → sum n f ≡ x + sum n g
+unfolding sum
+sum-raise zero f g a x l e h = absurd (omega arith)
+sum-raise (suc n) f g a x l e h = go (ℕ-discrete n a) (λ k. sum-raise n f g a x k e h)
   where
-    go : Dec (n ≡ a) → (a < n → sum n f ≡ suc (sum n g)) → f n + sum n f ≡ suc (g n + sum n g)
+    go : Dec (n ≡ a) → (a < n → sum n f ≡ x + sum n g) → f n + sum n f ≡ x + (g n + sum n g)
     go (yes p) r =
-        let x : f n ≡ suc (g n) = subst (λ z. f z ≡ suc (g z)) (sym p) e in
-        let y : sum n f ≡ sum n g = sum-ext n f g (λ k l. h k (λ q. absurd (omega arith))) in
+        let y : f n ≡ x + g n = subst (λ z. f z ≡ x + g z) (sym p) e in
+        let z : sum n f ≡ sum n g = sum-ext n f g (λ k l. h k (λ q. absurd (omega arith))) in
         omega arith
     go (no p) r = omega (arith, h n p, r (omega arith))
 

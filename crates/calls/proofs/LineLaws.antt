@@ -17,7 +17,7 @@ use Rattle.wire.proofs.NumberLaws.{number-before}
 use Rattle.wire.proofs.TextLaws.{length-decimals}
 use Rattle.calls.specs.Format.{callNumber, many, Stands, elements, formOf, width, place, numbersOf, buffersOf, callEnd, Whole}
 use Rattle.calls.specs.Text.{bufferText, line}
-use Rattle.calls.specs.Calls.{LineBy, LineAt, LineOf, pointerWrite, pointerRead, gridPlan, gridRead, gridStore, OneLine}
+use Rattle.calls.specs.Calls.{counts, LineBy, LineAt, LineOf, pointerWrite, pointerRead, gridPlan, gridRead, gridStore, OneLine}
 use Rattle.calls.proofs.FormatLaws.{stands-at, number-stands}
 use Rattle.calls.proofs.StreamLaws.{place-more, tag-more}
 use Rattle.calls.proofs.ElementLaws.{length-elements}
@@ -74,9 +74,9 @@ short x r h k = omega (arith, sized 20 (decimal x) (length-decimals 20 x) r)
 few-short : {ns : List ℕ} {bss : List (List ℕ)} {text : List ℕ} (tag : ℕ) → ((i : ℕ) → length (getD bss i []) ≤ 1024) → LineBy tag ns bss text → length text ≤ 32928
 few-short tag f (pointerWrite _ c m) = short _ (count _ (count _ (bytes _ (omega (arith, f 3)) (bytes _ (omega (arith, f 4)) none)))) (lit≤ tt) (lit≤ tt)
 few-short tag f (pointerRead _ o) = short _ (bytes _ (omega (arith, f 2)) none) (lit≤ tt) (lit≤ tt)
-few-short tag f (gridPlan _ c) = short _ (count _ (count _ (bytes _ (omega (arith, f 3)) none))) (lit≤ tt) (lit≤ tt)
+few-short tag f (gridPlan _ c) = short _ (count _ (count _ (count _ (count _ (bytes _ (omega (arith, f 3)) none))))) (lit≤ tt) (lit≤ tt)
 few-short tag f (gridRead _ o) = short _ (words _ (omega (arith, f 2)) none) (lit≤ tt) (lit≤ tt)
-few-short tag f (gridStore _ c) = short _ (count _ (count _ (words _ (omega (arith, f 4)) none))) (lit≤ tt) (lit≤ tt)
+few-short tag f (gridStore _ c) = short _ (count _ (count _ (count _ (count _ (words _ (omega (arith, f 4)) none))))) (lit≤ tt) (lit≤ tt)
 
 few : (bs : List ℕ) (tag : ℕ) → Whole bs tag → (i : ℕ) → length (getD (buffersOf bs tag) i []) ≤ 1024
 few bs tag h i =
@@ -99,12 +99,12 @@ one-by-tag tag (pointerRead l _) (pointerRead m _) =
     let (a, o) = pointer.read-unique _ _ _ _ _ _ _ _ l m in λ i. line (decimal (a i .number)) (bufferText 2 (o i) ∷ [])
 one-by-tag tag (gridPlan l _) (gridPlan m _) =
     let (a, c) = grid.one-plan _ _ _ _ _ _ _ (l .exactly) (m .exactly) in
-    λ i. line (decimal (a i .number)) (decimal (a i .levels) ∷ decimal (a i .faults) ∷ bufferText 2 (c i) ∷ [])
+    λ i. line (decimal (a i .number)) (counts (a i) ++ (bufferText 2 (c i) ∷ []))
 one-by-tag tag (gridRead l _) (gridRead m _) =
     let (a, o) = grid.one-read _ _ _ _ _ _ _ _ _ _ (l .exactly) (m .exactly) in λ i. line (decimal (a i .number)) (bufferText 16 (o i) ∷ [])
 one-by-tag tag (gridStore l _) (gridStore m _) =
     let (a, c) = grid.one-store _ _ _ _ _ _ _ _ (l .exactly) (m .exactly) in
-    λ i. line (decimal (a i .number)) (decimal (a i .levels) ∷ decimal (a i .faults) ∷ bufferText 16 (c i) ∷ [])
+    λ i. line (decimal (a i .number)) (counts (a i) ++ (bufferText 16 (c i) ∷ []))
 
 pub one-line : OneLine
 one-line bs text text′ l m = one-by-tag (getD bs 0 0) l m

@@ -1,13 +1,14 @@
 -- What is done with a call: how many bytes it takes, and the line that it puts. The line is the promised answer of that very call: its numbers and buffers
 -- stand in the bytes in the order of the table in docs/CALLS.md, and what the text shows is what the entry point promises of them. Assumes nothing.
 use mathlib.Core.Path.{_≡_}
-use mathlib.Core.List.{List, [], _∷_}
+use mathlib.Core.List.{List, [], _∷_, _++_}
 use Prim.Native.Nat.{ℕ}
 use lib.ListN.{length, getD, take}
 use Rattle.io.specs.Counts.{Counts}
 use Rattle.pointer_promises.specs.Promises as pointer
 use Rattle.grid_promises.specs.Promises as grid
 use Rattle.grid_promises.specs.Calls.{block}
+use Rattle.grid_promises.specs.declared.Answer.{Answer}
 use Rattle.calls.specs.Format.{many, elements, numbersOf, buffersOf, callEnd}
 use Rattle.wire.specs.Text.{decimal, Put}
 use Rattle.calls.specs.Text.{bufferText, line}
@@ -19,6 +20,10 @@ pub record Loaded (bs : List ℕ) (p w : ℕ) (after : List ℕ) (r : ℕ) : Typ
   pub holds : take r after ≡ elements bs p w
 
 -- ---- lines
+
+-- the counts of a plan's or a store's answer: L, F, the wrong and the right stuck cells
+abbrev pub counts : Answer → List (List ℕ)
+counts a = decimal (a .levels) ∷ decimal (a .faults) ∷ decimal (a .wrong) ∷ decimal (a .right) ∷ []
 
 -- the line of a call by its tag, its numbers and its buffers: an answer that the entry point promises of them, with buffers as long as before. Which number
 -- and buffer is which argument stands in its last line but one, and what the text shows in the last.
@@ -33,21 +38,21 @@ pub data LineBy : ℕ → List ℕ → List (List ℕ) → List ℕ → Type 0 w
       → length out′ ≡ length out
       → LineBy 2 (n ∷ []) (cells ∷ metadata ∷ out ∷ [])
       (line (decimal number) (bufferText 2 out′ ∷ []))
-  gridPlan : {rows columns k number levels faults : ℕ} {wanted mask values counters counters′ : List ℕ}
-      → grid.Plan (block rows columns wanted mask values) k counters (record { number = number; levels = levels; faults = faults }) counters′
+  gridPlan : {rows columns k : ℕ} {answer : Answer} {wanted mask values counters counters′ : List ℕ}
+      → grid.Plan (block rows columns wanted mask values) k counters answer counters′
       → length counters′ ≡ length counters
       → LineBy 3 (rows ∷ columns ∷ k ∷ []) (wanted ∷ mask ∷ values ∷ counters ∷ [])
-      (line (decimal number) (decimal levels ∷ decimal faults ∷ bufferText 2 counters′ ∷ []))
+      (line (decimal (answer .number)) (counts answer ++ (bufferText 2 counters′ ∷ [])))
   gridRead : {rows columns k number : ℕ} {cells counters out out′ : List ℕ}
       → grid.Read rows columns k cells counters out (record { number = number }) out′
       → length out′ ≡ length out
       → LineBy 4 (rows ∷ columns ∷ k ∷ []) (cells ∷ counters ∷ out ∷ [])
       (line (decimal number) (bufferText 16 out′ ∷ []))
-  gridStore : {rows columns k number levels faults : ℕ} {wanted mask values counters cells cells′ : List ℕ}
-      → grid.Store (block rows columns wanted mask values) k counters cells (record { number = number; levels = levels; faults = faults }) cells′
+  gridStore : {rows columns k : ℕ} {answer : Answer} {wanted mask values counters cells cells′ : List ℕ}
+      → grid.Store (block rows columns wanted mask values) k counters cells answer cells′
       → length cells′ ≡ length cells
       → LineBy 5 (rows ∷ columns ∷ k ∷ []) (wanted ∷ mask ∷ values ∷ counters ∷ cells ∷ [])
-      (line (decimal number) (decimal levels ∷ decimal faults ∷ bufferText 16 cells′ ∷ []))
+      (line (decimal (answer .number)) (counts answer ++ (bufferText 16 cells′ ∷ [])))
 
 -- the same of a call that stands at the front of the bytes, with its tag and whatever it is
 abbrev pub LineAt : List ℕ → ℕ → List ℕ → Type 0

@@ -11,6 +11,7 @@ use crate::input::elements;
 use crate::input::is_bad;
 use crate::input::load_bytes;
 use crate::input::load_words;
+use crate::print::put_answer;
 use crate::print::put_bytes;
 use crate::print::put_count;
 use crate::print::put_end;
@@ -85,11 +86,9 @@ fn grid_plan(s: &[u8], out: &mut [u8], put: usize) -> usize
         &values[..v],
         &mut counters[..i],
     );
-    let a = put_number(out, put, r.number);
-    let b = put_count(out, a, r.levels);
-    let c = put_count(out, b, r.faults);
-    let e = put_bytes(out, c, &counters[..i]);
-    put_end(out, e)
+    let a = put_answer(out, put, r);
+    let b = put_bytes(out, a, &counters[..i]);
+    put_end(out, b)
 }
 
 fn grid_read(s: &[u8], out: &mut [u8], put: usize) -> usize
@@ -135,11 +134,9 @@ fn grid_store(s: &[u8], out: &mut [u8], put: usize) -> usize
         elements(s, 5, 3),
         &mut cells[..i],
     );
-    let a = put_number(out, put, r.number);
-    let b = put_count(out, a, r.levels);
-    let c = put_count(out, b, r.faults);
-    let e = put_words(out, c, &cells[..i]);
-    put_end(out, e)
+    let a = put_answer(out, put, r);
+    let b = put_words(out, a, &cells[..i]);
+    put_end(out, b)
 }
 
 // Makes a call with this tag, and puts its line.

@@ -4,7 +4,7 @@ use mathlib.Core.Bool.{xor}
 use mathlib.Core.List.{List, [], _∷_, head-eq-of-cons-eq, tail-eq-of-cons-eq}
 use lib.Count.{ones, onesIn}
 use Rattle.bits.specs.Bits.{some, sum, most, list, has, word, words, at, bytes, number, digits}
-use Rattle.rdis.specs.Block.{bit, differs, faulty, faults}
+use Rattle.rdis.specs.Block.{bit, differs, faulty, count, faults}
 use Rattle.rdis.specs.Levels.{whole, takes, taken, left, levels, plan}
 use Rattle.rdis.specs.Cells.{flips, holds, stored, reading, misreads}
 use Rattle.rdis.specs.Packing.{width, bytesFor, packed, counter, unpacked, above, spareClear}
@@ -17,7 +17,7 @@ use Rattle.cases.specs.Statements.{EveryCase, EveryEdge, Computed, Promi
 use Rattle.cases.proofs.PromiseLaws.{promised}
 
 computed : EveryCase × EveryEdge
-unfolding line some sum most list has word words at bytes number digits bit differs faulty faults ones onesIn whole takes taken left levels plan flips holds stored reading misreads width bytesFor packed counter unpacked above spareClear inRange countersSized past readNumber planNumber storeNumber xor pointer.entry pointer.spare pointer.active pointer.unary pointer.idle pointer.formed pointer.held pointer.names pointer.repeats pointer.shown pointer.unserved pointer.positions pointer.renewed pointer.after pointer.activeAfter pointer.stored pointer.slot pointer.metadataBit pointer.encode pointer.measured pointer.verdict pointer.readNumber pointer.needed pointer.writeJudged pointer.writeNumber
+unfolding line some sum most list has word words at bytes number digits bit differs faulty count faults ones onesIn whole takes taken left levels plan flips holds stored reading misreads width bytesFor packed counter unpacked above spareClear inRange countersSized past readNumber planNumber storeNumber xor pointer.entry pointer.spare pointer.active pointer.unary pointer.idle pointer.formed pointer.held pointer.names pointer.repeats pointer.shown pointer.unserved pointer.positions pointer.renewed pointer.after pointer.activeAfter pointer.stored pointer.slot pointer.metadataBit pointer.encode pointer.measured pointer.verdict pointer.readNumber pointer.needed pointer.writeJudged pointer.writeNumber
 computed = (refl, (refl, refl, refl, refl))
 
 pub every-case : EveryCase

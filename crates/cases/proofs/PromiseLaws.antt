@@ -5,13 +5,15 @@ use mathlib.Core.List.{List, [], _∷_}
 use mathlib.Core.Logic.{_≢_}
 use native.Mathlib.Omega.{arith}
 use Rattle.bits.proofs.TestLaws.{iff-stable}
-use Rattle.rdis.specs.Block.{Block}
+use Rattle.rdis.specs.Block.{Block, faults}
+use Rattle.grid_promises.specs.Demands.{CountsNothing, CountsKinds}
+use Rattle.grid_promises.specs.declared.Answer.{Answer}
 use Rattle.pointer_promises.specs.Pointer.{active, held, encode, verdict}
 use Rattle.pointer_promises.specs.Refusals.{InRange, outOfRange}
 use Rattle.pointer_promises.proofs.FormedLaws.{active-is}
 use Rattle.pointer_promises.proofs.RefusalLaws.{range-iff}
-use Rattle.cases.specs.Lines.{Line, Call, metadata, pointerRead, pointerWrite, gridRead, gridPlan, gridStore, byNumber, countersIn, line}
-use Rattle.cases.specs.Statements.{Promised}
+use Rattle.cases.specs.Lines.{Line, Call, metadata, pointerRead, pointerWrite, gridRead, gridPlan, gridStore, byNumber, countersIn, counted, uncounted, line}
+use Rattle.cases.specs.Statements.{answered, Promised}
 
 -- an ending x with the number of its call is what the number says
 by-number : (answered computed : ℕ) (x accepted : Line) (refused : ℕ → Line) → answered ≡ computed → (answered ≡ 0 → x ≡ accepted) → (answered ≢ 0 → x ≡ refused answered)
@@ -54,23 +56,33 @@ promised-grid-read m n k cells counters out answer out′ r =
     (λ z i. record { numbers = z i ∷ []; buffers = e .shown z i ∷ [] })
     (λ z i. record { numbers = answer .number ∷ []; buffers = e .untouched (omega arith) i ∷ [] })
 
+-- the numbers of a plan or a store that is accepted with l levels, and of one that is refused
+all-counted : (b : Block) (l : ℕ) (a : Answer) → a .number ≡ 0 → a .levels ≡ l → a .faults ≡ faults (b .rows) (b .mask) → CountsKinds b a → answered a ≡ counted b l
+all-counted b l a z e f k = λ i. z i ∷ e i ∷ f i ∷ k .wrong i ∷ k .right i ∷ []
+
+none-counted : (a : Answer) → CountsNothing a → answered a ≡ uncounted (a .number)
+none-counted a c = λ i. a .number ∷ c .levels i ∷ c .faults i ∷ c .wrong i ∷ c .right i ∷ []
+
 promised-plan : (b : Block) (k : ℕ) (counters : List ℕ) → Promised (gridPlan b k counters) (line (gridPlan b k counters))
 unfolding line
 promised-plan b k counters answer counters′ w =
     let e = w .exactly in
-    by-number (answer .number) _ _ _ (λ x. record { numbers = x ∷ 0 ∷ 0 ∷ []; buffers = counters ∷ [] }) (e .number)
-    (λ z i. record { numbers = z i ∷ e .levelsAre z i ∷ e .faultsAre z i ∷ []; buffers = e .countersAre z i ∷ byNumber (z i) (countersIn b k (e .countersAre z i) ∷ []) [] })
+    by-number (answer .number) _ _ _ (λ x. record { numbers = uncounted x; buffers = counters ∷ [] }) (e .number)
+    (λ z i. record {
+      numbers = all-counted b _ answer z (e .levelsAre z) (e .faultsAre z) (e .kindsAre z) i;
+      buffers = e .countersAre z i ∷ byNumber (z i) (countersIn b k (e .countersAre z i) ∷ []) [];
+    })
     (λ z.
-    let (p, q, c) = e .untouched (omega arith) in
-    λ i. record { numbers = answer .number ∷ p i ∷ q i ∷ []; buffers = c i ∷ none (answer .number) (countersIn b k counters′ ∷ []) z i })
+    let (c, u) = e .untouched (omega arith) in
+    λ i. record { numbers = none-counted answer c i; buffers = u i ∷ none (answer .number) (countersIn b k counters′ ∷ []) z i })
 
 promised-store : (b : Block) (k : ℕ) (counters cells : List ℕ) → Promised (gridStore b k counters cells) (line (gridStore b k counters cells))
 unfolding line
 promised-store b k counters cells answer cells′ w =
     let e = w .exactly in
-    by-number (answer .number) _ _ _ (λ x. record { numbers = x ∷ 0 ∷ 0 ∷ []; buffers = cells ∷ [] }) (e .number)
-    (λ z i. record { numbers = z i ∷ e .levelsAre z i ∷ e .faultsAre z i ∷ []; buffers = e .cellsAre z i ∷ [] })
-    (λ z. let (p, q, c) = e .untouched (omega arith) in λ i. record { numbers = answer .number ∷ p i ∷ q i ∷ []; buffers = c i ∷ [] })
+    by-number (answer .number) _ _ _ (λ x. record { numbers = uncounted x; buffers = cells ∷ [] }) (e .number)
+    (λ z i. record { numbers = all-counted b _ answer z (e .levelsAre z) (e .faultsAre z) (e .kindsAre z) i; buffers = e .cellsAre z i ∷ [] })
+    (λ z. let (c, u) = e .untouched (omega arith) in λ i. record { numbers = none-counted answer c i; buffers = u i ∷ [] })
 
 -- so every call's line is promised
 pub promised : (c : Call) → Promised c (line c)

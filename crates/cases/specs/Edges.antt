@@ -1,5 +1,5 @@
--- Calls whose lines a misreading of document 01, or of document 02, A7, would change, where no starred case is against it: each row names the sentence.
--- Assumes nothing.
+-- Calls whose lines a misreading of document 01, or of document 02, A7 and A9, would change, where no starred case is against it: each row names the
+-- sentence. Assumes nothing.
 use Prim.Native.Nat.{ℕ}
 use mathlib.Core.List.{List, [], _∷_, _++_}
 use lib.ListN.{replicate}
@@ -72,25 +72,39 @@ readEdges =
 
 -- ---- plans
 
+-- two rows of five, with three stuck cells in the first and one in the second
+abbrev pub fourStuck : (data₀ data₁ value₀ value₁ : ℕ) → Block
+fourStuck d₀ d₁ v₀ v₁ = block 2 5 (d₀ ∷ d₁ ∷ []) (0x16 ∷ 0x01 ∷ []) (v₀ ∷ v₁ ∷ [])
+
 abbrev pub planEdges : List Row
 planEdges =
     -- the row counters come first where rows and columns are not as many
-    record { call = gridPlan (block 1 2 (0 ∷ []) (2 ∷ []) (2 ∷ [])) 1 (9 ∷ []); expected = planned 1 1 (0x05 ∷ []) (1 ∷ 0 ∷ 1 ∷ []) }
-    ∷ record { call = gridPlan (block 2 1 (0 ∷ 0 ∷ []) (0 ∷ 1 ∷ []) (0 ∷ 1 ∷ [])) 1 (9 ∷ []); expected = planned 1 1 (0x06 ∷ []) (0 ∷ 1 ∷ 1 ∷ []) }
+    record { call = gridPlan (block 1 2 (0 ∷ []) (2 ∷ []) (2 ∷ [])) 1 (9 ∷ []); expected = planned 1 1 1 0 (0x05 ∷ []) (1 ∷ 0 ∷ 1 ∷ []) }
+    ∷ record { call = gridPlan (block 2 1 (0 ∷ 0 ∷ []) (0 ∷ 1 ∷ []) (0 ∷ 1 ∷ [])) 1 (9 ∷ []); expected = planned 1 1 1 0 (0x06 ∷ []) (0 ∷ 1 ∷ 1 ∷ []) }
     -- where the stuck cells are right, no level is taken, and F counts them
-    ∷ record { call = gridPlan (block 1 1 (0 ∷ []) (1 ∷ []) (0 ∷ [])) 1 (9 ∷ []); expected = planned 0 1 (0x00 ∷ []) (0 ∷ 0 ∷ []) }
+    ∷ record { call = gridPlan (block 1 1 (0 ∷ []) (1 ∷ []) (0 ∷ [])) 1 (9 ∷ []); expected = planned 0 1 0 1 (0x00 ∷ []) (0 ∷ 0 ∷ []) }
     -- a value bit at a sound cell is ignored
-    ∷ record { call = gridPlan (block 2 2 (0 ∷ 0 ∷ []) (0 ∷ 0 ∷ []) (3 ∷ 1 ∷ [])) 1 (9 ∷ []); expected = planned 0 0 (0x00 ∷ []) (0 ∷ 0 ∷ 0 ∷ 0 ∷ []) }
+    ∷ record { call = gridPlan (block 2 2 (0 ∷ 0 ∷ []) (0 ∷ 0 ∷ []) (3 ∷ 1 ∷ [])) 1 (9 ∷ []); expected = planned 0 0 0 0 (0x00 ∷ []) (0 ∷ 0 ∷ 0 ∷ 0 ∷ []) }
     -- a cell stuck at 0 is wrong for the data 1: two wrong cells on no common line are one level
-    ∷ record { call = gridPlan (block 2 2 (3 ∷ 3 ∷ []) (1 ∷ 2 ∷ []) (0 ∷ 0 ∷ [])) 1 (9 ∷ []); expected = planned 1 2 (0x0F ∷ []) (1 ∷ 1 ∷ 1 ∷ 1 ∷ []) }
+    ∷ record { call = gridPlan (block 2 2 (3 ∷ 3 ∷ []) (1 ∷ 2 ∷ []) (0 ∷ 0 ∷ [])) 1 (9 ∷ []); expected = planned 1 2 2 0 (0x0F ∷ []) (1 ∷ 1 ∷ 1 ∷ 1 ∷ []) }
     -- K may be 2, with counters as wide as for 3; the old counters, here above K, are only measured
-    ∷ record { call = gridPlan G3 2 (0xFF ∷ []); expected = planned 2 3 (0x96 ∷ []) (2 ∷ 1 ∷ 1 ∷ 2 ∷ []) }
+    ∷ record { call = gridPlan G3 2 (0xFF ∷ []); expected = planned 2 3 2 1 (0x96 ∷ []) (2 ∷ 1 ∷ 1 ∷ 2 ∷ []) }
     -- so are their spare bits
-    ∷ record { call = gridPlan G2 1 (0xFC ∷ []); expected = planned 1 1 (0x03 ∷ []) (1 ∷ 1 ∷ []) }
+    ∷ record { call = gridPlan G2 1 (0xFC ∷ []); expected = planned 1 1 1 0 (0x03 ∷ []) (1 ∷ 1 ∷ []) }
+    -- wrong and right cells are counted apart, whatever the value bits at sound cells: one and three. A right cell on no line that was taken is counted
+    ∷ record { call = gridPlan (fourStuck 0x0D 0x12 0x09 0x12) 1 (9 ∷ []); expected = planned 1 4 1 3 (0x11 ∷ []) (1 ∷ 0 ∷ 0 ∷ 0 ∷ 1 ∷ 0 ∷ 0 ∷ []) }
+    ∷ record { call = gridPlan (fourStuck 0x0D 0x12 0x00 0x0C) 1 (9 ∷ []); expected = planned 1 4 1 3 (0x11 ∷ []) (1 ∷ 0 ∷ 0 ∷ 0 ∷ 1 ∷ 0 ∷ 0 ∷ []) }
+    -- three and one, with the data inverted
+    ∷ record { call = gridPlan (fourStuck 0x12 0x0D 0x09 0x12) 1 (9 ∷ []); expected = planned 1 4 3 1 (0x4F ∷ []) (1 ∷ 1 ∷ 1 ∷ 1 ∷ 0 ∷ 0 ∷ 1 ∷ []) }
+    -- two and four, in five rows of two
+    ∷ record {
+      call = gridPlan (block 5 2 (1 ∷ 2 ∷ 3 ∷ 0 ∷ 2 ∷ []) (3 ∷ 0 ∷ 2 ∷ 1 ∷ 3 ∷ []) (0 ∷ 2 ∷ 1 ∷ 0 ∷ 2 ∷ [])) 2 (9 ∷ 9 ∷ []);
+      expected = planned 2 6 2 4 (0x12 ∷ 0x24 ∷ []) (2 ∷ 0 ∷ 1 ∷ 0 ∷ 0 ∷ 1 ∷ 2 ∷ []);
+    }
     -- the last of 64 rows, and the column's counter after it in a ninth byte
     ∷ record {
       call = gridPlan (block 64 1 (replicate 64 1) (replicate 63 0 ++ (1 ∷ [])) (replicate 64 0)) 1 (replicate 9 9);
-      expected = planned 1 1 (replicate 7 0 ++ (0x80 ∷ 0x01 ∷ [])) (replicate 63 0 ++ (1 ∷ 1 ∷ []));
+      expected = planned 1 1 1 0 (replicate 7 0 ++ (0x80 ∷ 0x01 ∷ [])) (replicate 63 0 ++ (1 ∷ 1 ∷ []));
     }
     ∷ []
 
@@ -117,61 +131,64 @@ storeEdges =
     record { call = storeCell (cell 0 1 0) 1 0x03; expected = refused 13 (7 ∷ []) }
     ∷ record { call = storeCell (cell 1 1 1) 1 0x03; expected = refused 13 (7 ∷ []) }
     -- and by counters that do not: one line's alone inverts nothing
-    ∷ record { call = storeCell (cell 0 1 0) 1 0x00; expected = stores 0 1 (0 ∷ []) }
-    ∷ record { call = storeCell (cell 0 1 0) 1 0x01; expected = stores 1 1 (0 ∷ []) }
-    ∷ record { call = storeCell (cell 1 1 1) 1 0x02; expected = stores 1 1 (1 ∷ []) }
+    ∷ record { call = storeCell (cell 0 1 0) 1 0x00; expected = stores 0 1 0 1 (0 ∷ []) }
+    ∷ record { call = storeCell (cell 0 1 0) 1 0x01; expected = stores 1 1 0 1 (0 ∷ []) }
+    ∷ record { call = storeCell (cell 1 1 1) 1 0x02; expected = stores 1 1 0 1 (1 ∷ []) }
     -- one that is wrong, by both (G2 has the data 1)
-    ∷ record { call = storeCell (cell 0 1 1) 1 0x03; expected = stores 1 1 (1 ∷ []) }
+    ∷ record { call = storeCell (cell 0 1 1) 1 0x03; expected = stores 1 1 1 0 (1 ∷ []) }
     ∷ record { call = storeCell (cell 0 1 1) 1 0x00; expected = refused 13 (7 ∷ []) }
     -- a sound cell is never at fault, whatever its value bit: it holds its data bit, inverted where the counters say so
-    ∷ record { call = storeCell (cell 0 0 0) 1 0x03; expected = stores 1 0 (1 ∷ []) }
-    ∷ record { call = storeCell (cell 1 0 1) 1 0x03; expected = stores 1 0 (0 ∷ []) }
-    ∷ record { call = storeCell (cell 0 0 1) 1 0x00; expected = stores 0 0 (0 ∷ []) }
+    ∷ record { call = storeCell (cell 0 0 0) 1 0x03; expected = stores 1 0 0 0 (1 ∷ []) }
+    ∷ record { call = storeCell (cell 1 0 1) 1 0x03; expected = stores 1 0 0 0 (0 ∷ []) }
+    ∷ record { call = storeCell (cell 0 0 1) 1 0x00; expected = stores 0 0 0 0 (0 ∷ []) }
     -- one stuck cell that reads wrong is enough, the first or the last
     ∷ record { call = storeSmall (block 2 2 (0 ∷ 0 ∷ []) (3 ∷ 3 ∷ []) (1 ∷ 0 ∷ [])) 1 0x00; expected = refused 13 (7 ∷ 8 ∷ []) }
     ∷ record { call = storeSmall (block 2 2 (0 ∷ 0 ∷ []) (3 ∷ 3 ∷ []) (0 ∷ 2 ∷ [])) 1 0x00; expected = refused 13 (7 ∷ 8 ∷ []) }
     -- the row counters come first where rows and columns are not as many: the last cell stuck, by its own two counters and by others
-    ∷ record { call = gridStore (wide 2) 1 (0x05 ∷ []) (7 ∷ []); expected = stores 1 1 (2 ∷ []) }
+    ∷ record { call = gridStore (wide 2) 1 (0x05 ∷ []) (7 ∷ []); expected = stores 1 1 1 0 (2 ∷ []) }
     ∷ record { call = gridStore (wide 2) 1 (0x06 ∷ []) (7 ∷ []); expected = refused 13 (7 ∷ []) }
-    ∷ record { call = gridStore (tall 1) 1 (0x06 ∷ []) (7 ∷ 8 ∷ []); expected = stores 1 1 (0 ∷ 1 ∷ []) }
+    ∷ record { call = gridStore (tall 1) 1 (0x06 ∷ []) (7 ∷ 8 ∷ []); expected = stores 1 1 1 0 (0 ∷ 1 ∷ []) }
     ∷ record { call = gridStore (tall 1) 1 (0x05 ∷ []) (7 ∷ 8 ∷ []); expected = refused 13 (7 ∷ 8 ∷ []) }
     -- and with no stuck cell
-    ∷ record { call = gridStore (wide 0) 1 (0x03 ∷ []) (7 ∷ []); expected = stores 1 0 (1 ∷ []) }
-    ∷ record { call = gridStore (tall 0) 1 (0x05 ∷ []) (7 ∷ 8 ∷ []); expected = stores 1 0 (1 ∷ 0 ∷ []) }
+    ∷ record { call = gridStore (wide 0) 1 (0x03 ∷ []) (7 ∷ []); expected = stores 1 0 0 0 (1 ∷ []) }
+    ∷ record { call = gridStore (tall 0) 1 (0x05 ∷ []) (7 ∷ 8 ∷ []); expected = stores 1 0 0 0 (1 ∷ 0 ∷ []) }
     -- the smaller counter decides, not the larger (2 and 1), not the sum (1 and 1, 3 and 3), neither (3 and 2)
-    ∷ record { call = storeCell G2 2 0x06; expected = stores 2 1 (0 ∷ []) }
-    ∷ record { call = storeCell G2 2 0x05; expected = stores 1 1 (0 ∷ []) }
-    ∷ record { call = storeCell G2 3 0x0F; expected = stores 3 1 (0 ∷ []) }
+    ∷ record { call = storeCell G2 2 0x06; expected = stores 2 1 1 0 (0 ∷ []) }
+    ∷ record { call = storeCell G2 2 0x05; expected = stores 1 1 1 0 (0 ∷ []) }
+    ∷ record { call = storeCell G2 3 0x0F; expected = stores 3 1 1 0 (0 ∷ []) }
     ∷ record { call = storeCell G2 3 0x0B; expected = refused 13 (7 ∷ []) }
-    ∷ record { call = storeCell (cell 1 1 1) 3 0x0B; expected = stores 3 1 (1 ∷ []) }
-    ∷ record { call = storeCell (cell 1 0 0) 3 0x06; expected = stores 2 0 (0 ∷ []) }
-    ∷ record { call = storeCell (cell 1 0 0) 3 0x0E; expected = stores 3 0 (1 ∷ []) }
+    ∷ record { call = storeCell (cell 1 1 1) 3 0x0B; expected = stores 3 1 0 1 (1 ∷ []) }
+    ∷ record { call = storeCell (cell 1 0 0) 3 0x06; expected = stores 2 0 0 0 (0 ∷ []) }
+    ∷ record { call = storeCell (cell 1 0 0) 3 0x0E; expected = stores 3 0 0 0 (1 ∷ []) }
     -- L is the greatest counter, though it inverts no cell: a row's alone, and a column's alone
-    ∷ record { call = gridStore (wide 0) 3 (0x03 ∷ []) (7 ∷ []); expected = stores 3 0 (0 ∷ []) }
-    ∷ record { call = gridStore (wide 0) 2 (0x20 ∷ []) (7 ∷ []); expected = stores 2 0 (0 ∷ []) }
-    ∷ record { call = gridStore (tall 0) 2 (0x08 ∷ []) (7 ∷ 8 ∷ []); expected = stores 2 0 (0 ∷ 0 ∷ []) }
+    ∷ record { call = gridStore (wide 0) 3 (0x03 ∷ []) (7 ∷ []); expected = stores 3 0 0 0 (0 ∷ []) }
+    ∷ record { call = gridStore (wide 0) 2 (0x20 ∷ []) (7 ∷ []); expected = stores 2 0 0 0 (0 ∷ []) }
+    ∷ record { call = gridStore (tall 0) 2 (0x08 ∷ []) (7 ∷ 8 ∷ []); expected = stores 2 0 0 0 (0 ∷ 0 ∷ []) }
     -- though it is above the smaller of every two: row 1 and column 3
-    ∷ record { call = gridStore (tall 0) 3 (0x31 ∷ []) (7 ∷ 8 ∷ []); expected = stores 3 0 (1 ∷ 0 ∷ []) }
+    ∷ record { call = gridStore (tall 0) 3 (0x31 ∷ []) (7 ∷ 8 ∷ []); expected = stores 3 0 0 0 (1 ∷ 0 ∷ []) }
     -- though its line holds no stuck cell and it inverts none, and another line does: row counters 1, 3, columns 2, 0; and row counters 2, 0, columns 1, 3
-    ∷ record { call = storeSmall (block 2 2 (0 ∷ 0 ∷ []) (2 ∷ 0 ∷ []) (0 ∷ 0 ∷ [])) 3 0x2D; expected = stores 3 1 (1 ∷ 0 ∷ []) }
-    ∷ record { call = storeSmall (block 2 2 (0 ∷ 0 ∷ []) (0 ∷ 1 ∷ []) (0 ∷ 0 ∷ [])) 3 0xD2; expected = stores 3 1 (1 ∷ 0 ∷ []) }
+    ∷ record { call = storeSmall (block 2 2 (0 ∷ 0 ∷ []) (2 ∷ 0 ∷ []) (0 ∷ 0 ∷ [])) 3 0x2D; expected = stores 3 1 0 1 (1 ∷ 0 ∷ []) }
+    ∷ record { call = storeSmall (block 2 2 (0 ∷ 0 ∷ []) (0 ∷ 1 ∷ []) (0 ∷ 0 ∷ [])) 3 0xD2; expected = stores 3 1 0 1 (1 ∷ 0 ∷ []) }
     -- whoever made them: G3 is planned with 2, and rows 2 and 1 with columns 1 and 3 mask it too
-    ∷ record { call = storeSmall G3 3 0xD6; expected = stores 3 3 (1 ∷ 3 ∷ []) }
+    ∷ record { call = storeSmall G3 3 0xD6; expected = stores 3 3 2 1 (1 ∷ 3 ∷ []) }
     -- K may be 2, with counters as wide as for 3
-    ∷ record { call = storeSmall G3 2 0x96; expected = stores 2 3 (1 ∷ 3 ∷ []) }
+    ∷ record { call = storeSmall G3 2 0x96; expected = stores 2 3 2 1 (1 ∷ 3 ∷ []) }
     -- G5, which differs from G3 in one cell, reads wrong by these
     ∷ record { call = storeSmall G5 3 0x96; expected = refused 13 (7 ∷ 8 ∷ []) }
     -- a sound cell that a level took stores the other bit than its data's, a 0 for a 1 too
-    ∷ record { call = storeSmall (block 2 2 (3 ∷ 3 ∷ []) (1 ∷ 2 ∷ []) (0 ∷ 0 ∷ [])) 1 0x0F; expected = stores 1 2 (0 ∷ 0 ∷ []) }
+    ∷ record { call = storeSmall (block 2 2 (3 ∷ 3 ∷ []) (1 ∷ 2 ∷ []) (0 ∷ 0 ∷ [])) 1 0x0F; expected = stores 1 2 2 0 (0 ∷ 0 ∷ []) }
     -- it judges its counters as a read does: a spare bit is 3, a counter above K is 4, of a column and of a row
     ∷ record { call = storeCell (cell 0 0 0) 1 0x04; expected = refused 3 (7 ∷ []) }
     ∷ record { call = storeSmall G3 2 0xD6; expected = refused 4 (7 ∷ 8 ∷ []) }
     ∷ record { call = storeCell G2 2 0x07; expected = refused 4 (7 ∷ []) }
     -- old cells are only measured: bits past the last column are no refusal, and are 0 afterwards
-    ∷ record { call = gridStore G2 1 (0x03 ∷ []) (0xFFFFFFFFFFFFFFFF ∷ []); expected = stores 1 1 (0 ∷ []) }
+    ∷ record { call = gridStore G2 1 (0x03 ∷ []) (0xFFFFFFFFFFFFFFFF ∷ []); expected = stores 1 1 1 0 (0 ∷ []) }
+    -- it counts the cells that are wrong for the data, though they read right by the counters, those of a plan or with column 0 raised
+    ∷ record { call = gridStore (fourStuck 0x0D 0x12 0x09 0x12) 1 (0x11 ∷ []) (7 ∷ 8 ∷ []); expected = stores 1 4 1 3 (0x09 ∷ 0x12 ∷ []) }
+    ∷ record { call = gridStore (fourStuck 0x0D 0x12 0x00 0x0C) 1 (0x15 ∷ []) (7 ∷ 8 ∷ []); expected = stores 1 4 1 3 (0x08 ∷ 0x12 ∷ []) }
     -- the last of 64 columns: its counter is in a ninth byte
     ∷ record {
       call = gridStore (block 1 64 (0xFFFFFFFFFFFFFFFF ∷ []) (1 ∷ []) (1 ∷ [])) 1 (1 ∷ replicate 7 0 ++ (1 ∷ [])) (7 ∷ []);
-      expected = stores 1 1 (0x7FFFFFFFFFFFFFFF ∷ []);
+      expected = stores 1 1 0 1 (0x7FFFFFFFFFFFFFFF ∷ []);
     }
     ∷ []

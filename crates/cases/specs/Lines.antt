@@ -1,10 +1,11 @@
 -- What a call comes to by the definitions, as a line: numbers, then lists of bytes and words. Assumes nothing.
 use Prim.Native.Nat.{ℕ, zero, suc, _+_}
+use mathlib.Core.Bool.{true, false}
 use mathlib.Core.List.{List, [], _∷_}
 use lib.Dec.{eqb}
 use lib.ListN.{length, getD}
 use Rattle.bits.specs.Bits.{some, most, at, bytes}
-use Rattle.rdis.specs.Block.{Block, faults}
+use Rattle.rdis.specs.Block.{Block, faultyCells, faults}
 use Rattle.rdis.specs.Levels.{plan}
 use Rattle.rdis.specs.Cells.{stored, reading}
 use Rattle.rdis.specs.Packing.{width, inOrder, packed, unpacked, counter, rowCounter, columnCounter}
@@ -40,6 +41,14 @@ byNumber (suc n) accepted refused = refused
 abbrev pub countersIn : Block → ℕ → List ℕ → List ℕ
 countersIn b k bs = unpacked (width k) (b .rows + b .columns) bs
 
+-- the numbers of an accepted plan or store of l levels: L, F, the wrong stuck cells and the right ones
+abbrev pub counted : Block → ℕ → List ℕ
+counted b l = 0 ∷ l ∷ faults (b .rows) (b .mask) ∷ faultyCells b true ∷ faultyCells b false ∷ []
+
+-- and of a refused one
+abbrev pub uncounted : ℕ → List ℕ
+uncounted number = number ∷ 0 ∷ 0 ∷ 0 ∷ 0 ∷ []
+
 -- where it is refused, the counts are 0 and the buffers as they were
 unfoldable pub line : Call → Line
 line (metadata n es) =
@@ -65,16 +74,16 @@ line (gridRead m n k cells counters out) =
 line (gridPlan b k counters) =
     byNumber (planNumber b k (length counters))
     (record {
-      numbers = 0 ∷ used (plan b k) ∷ faults (b .rows) (b .mask) ∷ [];
+      numbers = counted b (used (plan b k));
       buffers =
           packed (width k) (inOrder (b .rows) (b .columns) (rowsOf (plan b k)) (columnsOf (plan b k)))
           ∷ countersIn b k (packed (width k) (inOrder (b .rows) (b .columns) (rowsOf (plan b k)) (columnsOf (plan b k)))) ∷ [];
     })
-    (record { numbers = planNumber b k (length counters) ∷ 0 ∷ 0 ∷ []; buffers = counters ∷ [] })
+    (record { numbers = uncounted (planNumber b k (length counters)); buffers = counters ∷ [] })
 line (gridStore b k counters cells) =
     byNumber (storeNumber b k counters (length cells))
     (record {
-      numbers = 0 ∷ most (b .rows + b .columns) (counter (width k) counters) ∷ faults (b .rows) (b .mask) ∷ [];
+      numbers = counted b (most (b .rows + b .columns) (counter (width k) counters));
       buffers = stored b (rowCounter (width k) counters) (columnCounter (width k) (b .rows) counters) ∷ [];
     })
-    (record { numbers = storeNumber b k counters (length cells) ∷ 0 ∷ 0 ∷ []; buffers = cells ∷ [] })
+    (record { numbers = uncounted (storeNumber b k counters (length cells)); buffers = cells ∷ [] })

@@ -24,6 +24,10 @@ EveryCase = Computed table
 abbrev pub EveryEdge : Type 0
 EveryEdge = Computed rowEdges × Computed readEdges × Computed planEdges × Computed storeEdges
 
+-- what a plan or a store answers: the number, and the counts
+abbrev pub answered : gridAnswer.Answer → List ℕ
+answered a = a .number ∷ a .levels ∷ a .faults ∷ a .wrong ∷ a .right ∷ []
+
 -- every answer, with the buffers at the end, that meets the promise of a call is this line
 abbrev pub Promised : Call → Line → Type 0
 -- metadata is what an accepted write leaves: one after which these entries are active
@@ -41,13 +45,10 @@ Promised (gridRead m n k cells counters out) l =
 -- where it is accepted, the counters that the bytes hold come last
 Promised (gridPlan b k counters) l =
     (answer : gridAnswer.Answer) (counters′ : List ℕ) → grid.Plan b k counters answer counters′
-    → record {
-      numbers = answer .number ∷ answer .levels ∷ answer .faults ∷ [];
-      buffers = counters′ ∷ byNumber (answer .number) (countersIn b k counters′ ∷ []) [];
-    } ≡ l
+    → record { numbers = answered answer; buffers = counters′ ∷ byNumber (answer .number) (countersIn b k counters′ ∷ []) [] } ≡ l
 Promised (gridStore b k counters cells) l =
     (answer : gridAnswer.Answer) (cells′ : List ℕ) → grid.Store b k counters cells answer cells′
-    → record { numbers = answer .number ∷ answer .levels ∷ answer .faults ∷ []; buffers = cells′ ∷ [] } ≡ l
+    → record { numbers = answered answer; buffers = cells′ ∷ [] } ≡ l
 
 -- each of these rows is promised
 abbrev pub Every : List Row → Type 0

@@ -47,17 +47,17 @@ planSmall b k = gridPlan b k (9 ∷ [])
 abbrev pub storeSmall : Block → ℕ → ℕ → Call
 storeSmall b k byte = gridStore b k (byte ∷ []) (7 ∷ 8 ∷ [])
 
--- an accepted plan: L, F, the packed counters, and the counters of rows and then columns
-abbrev pub planned : ℕ → ℕ → List ℕ → List ℕ → Line
-planned l f bytes counters = record { numbers = 0 ∷ l ∷ f ∷ []; buffers = bytes ∷ counters ∷ [] }
+-- an accepted plan: L, F, the wrong and the right cells, the packed counters, and the counters of rows and then columns
+abbrev pub planned : (l f wrong right : ℕ) → List ℕ → List ℕ → Line
+planned l f wrong right bytes counters = record { numbers = 0 ∷ l ∷ f ∷ wrong ∷ right ∷ []; buffers = bytes ∷ counters ∷ [] }
 
--- an accepted store: L, F and the cells
-abbrev pub stores : ℕ → ℕ → List ℕ → Line
-stores l f cells = record { numbers = 0 ∷ l ∷ f ∷ []; buffers = cells ∷ [] }
+-- an accepted store: L, F, the wrong and the right cells, and what the cells hold
+abbrev pub stores : (l f wrong right : ℕ) → List ℕ → Line
+stores l f wrong right cells = record { numbers = 0 ∷ l ∷ f ∷ wrong ∷ right ∷ []; buffers = cells ∷ [] }
 
 -- a refused one of either: the number, and the buffer as it was
 abbrev pub refused : ℕ → List ℕ → Line
-refused number before = record { numbers = number ∷ 0 ∷ 0 ∷ []; buffers = before ∷ [] }
+refused number before = record { numbers = number ∷ 0 ∷ 0 ∷ 0 ∷ 0 ∷ []; buffers = before ∷ [] }
 
 -- ---- the table
 
@@ -84,17 +84,17 @@ table =
       expected = record { numbers = 4 ∷ 0 ∷ 0 ∷ []; buffers = old ∷ (0x00 ∷ 0x00 ∷ 0x40 ∷ 0x00 ∷ []) ∷ [] };
     }
     -- G1: no stuck cell
-    ∷ record { call = planSmall G1 1; expected = planned 0 0 (0x00 ∷ []) (0 ∷ 0 ∷ 0 ∷ 0 ∷ []) }
-    ∷ record { call = storeSmall G1 1 0x00; expected = stores 0 0 (1 ∷ 2 ∷ []) }
+    ∷ record { call = planSmall G1 1; expected = planned 0 0 0 0 (0x00 ∷ []) (0 ∷ 0 ∷ 0 ∷ 0 ∷ []) }
+    ∷ record { call = storeSmall G1 1 0x00; expected = stores 0 0 0 0 (1 ∷ 2 ∷ []) }
     -- G2: one cell, stuck at the other value
-    ∷ record { call = gridPlan G2 1 (9 ∷ []); expected = planned 1 1 (0x03 ∷ []) (1 ∷ 1 ∷ []) }
-    ∷ record { call = gridStore G2 1 (0x03 ∷ []) (7 ∷ []); expected = stores 1 1 (0 ∷ []) }
+    ∷ record { call = gridPlan G2 1 (9 ∷ []); expected = planned 1 1 1 0 (0x03 ∷ []) (1 ∷ 1 ∷ []) }
+    ∷ record { call = gridStore G2 1 (0x03 ∷ []) (7 ∷ []); expected = stores 1 1 1 0 (0 ∷ []) }
     -- by the counter of its row alone it reads wrong, and by that of its column
     ∷ record { call = gridStore G2 1 (0x01 ∷ []) (7 ∷ []); expected = refused 13 (7 ∷ []) }
     ∷ record { call = gridStore G2 1 (0x02 ∷ []) (7 ∷ []); expected = refused 13 (7 ∷ []) }
     -- G3: two levels
-    ∷ record { call = planSmall G3 3; expected = planned 2 3 (0x96 ∷ []) (2 ∷ 1 ∷ 1 ∷ 2 ∷ []) }
-    ∷ record { call = storeSmall G3 3 0x96; expected = stores 2 3 (1 ∷ 3 ∷ []) }
+    ∷ record { call = planSmall G3 3; expected = planned 2 3 2 1 (0x96 ∷ []) (2 ∷ 1 ∷ 1 ∷ 2 ∷ []) }
+    ∷ record { call = storeSmall G3 3 0x96; expected = stores 2 3 2 1 (1 ∷ 3 ∷ []) }
     -- by counters that are all 0 two of its cells read wrong
     ∷ record { call = storeSmall G3 3 0x00; expected = refused 13 (7 ∷ 8 ∷ []) }
     -- G4: one level is too few
@@ -104,10 +104,10 @@ table =
     ∷ record { call = planSmall G5 2; expected = refused 7 (9 ∷ []) }
     ∷ record { call = planSmall G5 3; expected = refused 7 (9 ∷ []) }
     -- G6: three levels, and two are too few
-    ∷ record { call = gridPlan G6 3 (9 ∷ 9 ∷ []); expected = planned 3 5 (0x5E ∷ 0x0B ∷ []) (2 ∷ 3 ∷ 1 ∷ 1 ∷ 3 ∷ 2 ∷ []) }
-    ∷ record { call = gridStore G6 3 (0x5E ∷ 0x0B ∷ []) (7 ∷ 8 ∷ 9 ∷ []); expected = stores 3 5 (1 ∷ 3 ∷ 7 ∷ []) }
+    ∷ record { call = gridPlan G6 3 (9 ∷ 9 ∷ []); expected = planned 3 5 3 2 (0x5E ∷ 0x0B ∷ []) (2 ∷ 3 ∷ 1 ∷ 1 ∷ 3 ∷ 2 ∷ []) }
+    ∷ record { call = gridStore G6 3 (0x5E ∷ 0x0B ∷ []) (7 ∷ 8 ∷ 9 ∷ []); expected = stores 3 5 3 2 (1 ∷ 3 ∷ 7 ∷ []) }
     ∷ record { call = gridPlan G6 2 (9 ∷ 9 ∷ []); expected = refused 7 (9 ∷ 9 ∷ []) }
     -- G8: three alternating cells whose ends are right
-    ∷ record { call = planSmall G8 1; expected = planned 1 3 (0x09 ∷ []) (1 ∷ 0 ∷ 0 ∷ 1 ∷ []) }
-    ∷ record { call = storeSmall G8 1 0x09; expected = stores 1 3 (2 ∷ 0 ∷ []) }
+    ∷ record { call = planSmall G8 1; expected = planned 1 3 1 2 (0x09 ∷ []) (1 ∷ 0 ∷ 0 ∷ 1 ∷ []) }
+    ∷ record { call = storeSmall G8 1 0x09; expected = stores 1 3 1 2 (2 ∷ 0 ∷ []) }
     ∷ []

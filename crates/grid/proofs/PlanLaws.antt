@@ -7,7 +7,7 @@ use native.Mathlib.Omega.{arith}
 use lib.ListN.{length}
 use Rattle.bits.proofs.TestLaws.{clash}
 use Rattle.bits.proofs.BoundLaws.{list-ext}
-use Rattle.rdis.specs.Block.{Block, faults}
+use Rattle.rdis.specs.Block.{Block}
 use Rattle.rdis.specs.Levels.{Outcome, masked, unmaskable, plan}
 use Rattle.rdis.specs.Packing.{width, inOrder, packed}
 use Rattle.rdis.proofs.PackingLaws.{width-holds}
@@ -22,17 +22,18 @@ use Rattle.grid_promises.proofs.RefusalLaws.{in-range, plan-sized}
 use Rattle.grid_promises.proofs.PlanDemands.{plan-demands}
 use Rattle.grid_checks.specs.Numbers.{judged, planJudged}
 use Rattle.grid.specs.declared.levels.Taken.{Taken}
-use Rattle.grid.specs.Steps.{blockOf, PlanSized, Counts, Follows}
-use Rattle.grid.proofs.Returns.{stands, passes, Refuses}
+use Rattle.grid.specs.Steps.{blockOf, PlanSized, Counts, Follows, Refuses, Accepts}
+use Rattle.grid.proofs.Returns.{stands, passes, mask-inside}
 
 refused-plan : (b : Block) (k : ℕ) (counters : List ℕ) (a : Answer) (x : ℕ) → (x ≡ 0 → ⊥) → x ≡ planNumber b k (length counters) → Refuses x a → Plan b k counters a counters
-refused-plan b k counters a x l e (n, u, v) =
+refused-plan b k counters a x l e (n, c) =
     plan-demands b k counters a counters (record {
       number = n ∙ e;
-      untouched = λ _. (u, v, refl);
+      untouched = λ _. (c, refl);
       countersAre = λ z. absurd (l (sym n ∙ z));
       levelsAre = λ z. absurd (l (sym n ∙ z));
       faultsAre = λ z. absurd (l (sym n ∙ z));
+      kindsAre = λ z. absurd (l (sym n ∙ z));
     })
 
 -- ---- numbers and lengths
@@ -104,17 +105,18 @@ module _ (n k : ℕ) (d mask values counters : List ℕ) (s : PlanSized n k d ma
         let r = in-range (length d) n k .0 (s .ranges) in
         can-pack k (length d) n (t .used) (length counters) (omega (arith, h .0, width-holds k (r .levels .1))) (record { rows = r .rows .1; columns = r .columns .1; size = s .sizes })
 
-    pub plan-done : (counters′ : List ℕ) → t .ended ≡ true → a .number ≡ 0 → a .levels ≡ t .used → a .faults ≡ faults (length mask) mask
+    pub plan-done : (counters′ : List ℕ) → t .ended ≡ true → Accepts d mask values (t .used) a
         → Pack k (length d) n (t .used) (t .rows) (t .columns) counters counters′ → Plan own k counters a counters′
     unfolding planNumber
-    plan-done counters′ e z x y p =
+    plan-done counters′ e g p =
         let f = found t (plan own k) (h .1) e in
         let counted : inOrder (length d) n (times (t .rows) (t .used)) (times (t .columns) (t .used)) ≡ inOrder (length d) n (f .r) (f .c) =
         ap₂ _++_ (list-ext (length d) (times (t .rows) (t .used)) (f .r) (λ i _. f .counts .rows i)) (list-ext n (times (t .columns) (t .used)) (f .c) (λ j _. f .counts .columns j)) in
         plan-demands own k counters a counters′ (record {
-          number = z ∙ rw (s .ranges, lengths-right, inside, f .masks);
-          untouched = λ l. absurd (omega arith);
+          number = g .number ∙ rw (s .ranges, lengths-right, inside, f .masks);
+          untouched = λ l. absurd (omega (arith, g .number));
           countersAre = λ _. rw (f .masks) (p .bytes has-room ∙ ap (packed (width k)) counted);
-          levelsAre = λ _. rw (f .masks) (x ∙ f .counts .used);
-          faultsAre = λ _. y ∙ ap (λ m. faults m mask) (s .masks);
+          levelsAre = λ _. rw (f .masks) (g .levels ∙ f .counts .used);
+          faultsAre = λ _. g .faultsAre;
+          kindsAre = λ _. g .kindsAre n (mask-inside n d mask values inside);
         })

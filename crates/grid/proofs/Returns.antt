@@ -1,9 +1,14 @@
--- What the proofs of a read, a plan and a store share: numbers and lengths that were judged, and an answer that refuses. Assumes nothing.
-use Prim.Native.Nat.{ℕ}
+-- What the proofs of a read, a plan and a store share: numbers, lengths and words that were judged. Assumes nothing.
+use Prim.Native.Nat.{ℕ, _^_}
 use mathlib.Core.Path.{_≡_, refl}
-use mathlib.Core.Bool.{Bool, true, false, not, cond}
+use mathlib.Core.Bool.{Bool, true, false, not, cond, _||_}
+use mathlib.Core.List.{List}
 use native.Mathlib.Omega.{arith}
-use Rattle.grid_promises.specs.declared.Answer.{Answer}
+use Rattle.bits.specs.Bits.{Below}
+use Rattle.bits.proofs.TestLaws.{clash}
+use Rattle.grid_promises.specs.Calls.{past, planPast}
+use Rattle.grid_promises.proofs.RefusalLaws.{within}
+use Rattle.grid.specs.Steps.{blockOf}
 
 -- ---- numbers and lengths
 
@@ -18,6 +23,12 @@ passes true true h = (refl, refl)
 passes true false h = absurd (omega arith)
 passes false s h = absurd (omega arith)
 
--- an answer that refuses by the number x and counts nothing
-abbrev pub Refuses : ℕ → Answer → Type 0
-Refuses x a = (a .number ≡ x) × (a .levels ≡ 0) × (a .faults ≡ 0)
+-- ---- words within the columns
+
+pub none-of : (a b c : Bool) → a || (b || c) ≡ false → (a ≡ false) × (b ≡ false) × (c ≡ false)
+none-of true b c h = clash refl h
+none-of false true c h = clash refl h
+none-of false false c h = (refl, refl, h)
+
+pub mask-inside : (n : ℕ) (d mask values : List ℕ) → planPast (blockOf n d mask values) ≡ false → Below (2 ^ n) mask
+mask-inside n d mask values h = within n mask .0 (none-of (past n d) (past n mask) (past n values) h .1)

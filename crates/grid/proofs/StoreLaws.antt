@@ -1,7 +1,7 @@
 -- What a code proof cites at each return of a store: from the tests' values and the inverted data to the whole promise. Assumes nothing.
 use Prim.Native.Nat.{ℕ, _+_, _^_, _<_, _≤_}
 use mathlib.Core.Path.{_≡_, refl, sym, ap, subst, _∙_}
-use mathlib.Core.Bool.{Bool, true, false, not, xor, cond, _&&_, _||_}
+use mathlib.Core.Bool.{Bool, true, false, not, xor, cond, _&&_}
 use mathlib.Core.List.{List}
 use mathlib.Core.Logic.{⊎-elim}
 use native.Mathlib.Omega.{arith}
@@ -13,7 +13,7 @@ use Rattle.bits.proofs.BoundLaws.{some-in, some-out}
 use Rattle.bits.proofs.BitLaws.{has-high}
 use Rattle.bits.proofs.ByteLaws.{has-words}
 use Rattle.words.proofs.CopyLaws.{as-long}
-use Rattle.rdis.specs.Block.{Block, bit, stuck, faults}
+use Rattle.rdis.specs.Block.{Block, bit, stuck}
 use Rattle.rdis.specs.Cells.{flips, reading, misread, misreads}
 use Rattle.rdis.specs.Packing.{width, rowCounter, columnCounter, above, spareClear}
 use Rattle.rdis.proofs.CellLaws.{length-reading, stored-inverted}
@@ -25,18 +25,19 @@ use Rattle.grid_promises.proofs.RefusalLaws.{in-range, read-sized, store-sized,
 use Rattle.grid_promises.proofs.StoreDemands.{store-demands}
 use Rattle.grid_checks.specs.Numbers.{judged, storeJudged}
 use Rattle.grid.specs.declared.shows.Shown.{Shown}
-use Rattle.grid.specs.Steps.{blockOf, Rows, StoreSized, Shows, anyDiffers}
-use Rattle.grid.proofs.Returns.{stands, passes, Refuses}
+use Rattle.grid.specs.Steps.{blockOf, Rows, StoreSized, Refuses, Accepts, Shows, anyDiffers}
+use Rattle.grid.proofs.Returns.{stands, passes, none-of, mask-inside}
 use Rattle.grid.proofs.ShowLaws.{accepts}
 
 refused-store : (b : Block) (k : ℕ) (counters cells : List ℕ) (a : Answer) (x : ℕ) → (x ≡ 0 → ⊥) → x ≡ storeNumber b k counters (length cells) → Refuses x a → Store b k counters cells a cells
-refused-store b k counters cells a x l e (n, u, v) =
+refused-store b k counters cells a x l e (n, c) =
     store-demands b k counters cells a cells (record {
       number = n ∙ e;
-      untouched = λ _. (u, v, refl);
+      untouched = λ _. (c, refl);
       cellsAre = λ z. absurd (l (sym n ∙ z));
       levelsAre = λ z. absurd (l (sym n ∙ z));
       faultsAre = λ z. absurd (l (sym n ∙ z));
+      kindsAre = λ z. absurd (l (sym n ∙ z));
     })
 
 -- ---- numbers and lengths
@@ -120,11 +121,6 @@ module _ (b : Block) (r c : ℕ → ℕ) (narrow : b .columns ≤ 64) (masks : B
 
 -- ---- the ways to return
 
-none-of : (a b c : Bool) → a || (b || c) ≡ false → (a ≡ false) × (b ≡ false) × (c ≡ false)
-none-of true b c h = clash refl h
-none-of false true c h = clash refl h
-none-of false false c h = (refl, refl, h)
-
 -- counters that are refused
 not-right : (s a : Bool) (y : ℕ) → (cond {A = ℕ} (not s) 3 (cond a 4 0) ≡ 0 → ⊥) → cond {A = ℕ} (not s) 3 (cond a 4 0) ≡ cond (not s) 3 (cond a 4 y)
 not-right true true y h = refl
@@ -190,8 +186,8 @@ module _ (n k : ℕ) (d mask values counters cells : List ℕ) (s : StoreSized n
       module _ (wrong : Bool) (e : wrong ≡ anyDiffers apart′ mask values) where
         judged-right : wrong ≡ misreads own rows columns
         judged-right =
-            let (_, masks, _) = none-of (past n d) (past n mask) (past n values) inside in
-            e ∙ ap (λ x. anyDiffers x mask values) shown-is ∙ judged-is own rows columns (in-range (length d) n k .0 ranges .columns .1) (within n mask .0 masks)
+            e ∙ ap (λ x. anyDiffers x mask values) shown-is
+            ∙ judged-is own rows columns (in-range (length d) n k .0 ranges .columns .1) (mask-inside n d mask values inside)
 
         pub store-misread : (a : Answer) → wrong ≡ true → Refuses 13 a → Store own k counters cells a cells
         unfolding storeNumber
@@ -199,16 +195,17 @@ module _ (n k : ℕ) (d mask values counters cells : List ℕ) (s : StoreSized n
             let right : misreads own rows columns ≡ true = sym judged-right ∙ h in
             refused-store own k counters cells a 13 (λ z. omega arith) (rw (ranges, lengths-right, inside, right-counters .0, right-counters .1, right)) f
 
-        pub store-done : (a : Answer) (cells′ : List ℕ) → wrong ≡ false → a .number ≡ 0 → a .levels ≡ r .levels → a .faults ≡ faults (length mask) mask
+        pub store-done : (a : Answer) (cells′ : List ℕ) → wrong ≡ false → Accepts d mask values (r .levels) a
             → cells′ ≡ cond (eqb (length cells) (length apart′)) apart′ cells → Store own k counters cells a cells′
         unfolding storeNumber
-        store-done a cells′ h y v f g =
+        store-done a cells′ h f g =
             let right : misreads own rows columns ≡ false = sym judged-right ∙ h in
             store-demands own k counters cells a cells′ (record {
-              number = y ∙ rw (ranges, lengths-right, inside, right-counters .0, right-counters .1, right);
-              untouched = λ l. absurd (omega arith);
+              number = f .number ∙ rw (ranges, lengths-right, inside, right-counters .0, right-counters .1, right);
+              untouched = λ l. absurd (omega (arith, f .number));
               cellsAre = λ _.
                   g ∙ sym (as-long (length cells) (length apart′) apart′ cells (s .room ∙ sym as-many)) ∙ shown-is ∙ stored-inverted own rows columns right;
-              levelsAre = λ _. v ∙ i .greatest z;
-              faultsAre = λ _. f ∙ ap (λ m. faults m mask) (s .planned .masks);
+              levelsAre = λ _. f .levels ∙ i .greatest z;
+              faultsAre = λ _. f .faultsAre;
+              kindsAre = λ _. f .kindsAre n (mask-inside n d mask values inside);
             })

@@ -4,13 +4,15 @@ use mathlib.Core.Path.{_≡_}
 use mathlib.Core.Bool.{Bool, true, false, xor, _&&_}
 use mathlib.Core.List.{List}
 use lib.ListN.{length}
-use Rattle.bits.specs.Bits.{some, most}
-use Rattle.rdis.specs.Block.{Block, bit}
+use Rattle.bits.specs.Bits.{some, most, Below}
+use Rattle.rdis.specs.Block.{Block, bit, faults}
 use Rattle.rdis.specs.Levels.{Subgrid, Outcome, masked, unmaskable, levels}
 use Rattle.rdis.specs.Packing.{width, bytesFor, counter}
 use Rattle.grid_sets.specs.Sets.{times}
 use Rattle.grid_promises.specs.Calls.{block, inRange}
+use Rattle.grid_promises.specs.Demands.{CountsNothing, CountsKinds}
 use Rattle.grid_promises.specs.Promises.{Read}
+use Rattle.grid_promises.specs.declared.Answer.{Answer}
 use Rattle.grid.specs.declared.levels.Sub.{Sub}
 use Rattle.grid.specs.declared.levels.Taken.{Taken}
 use Rattle.grid.specs.declared.shows.Shown.{Shown}
@@ -61,6 +63,19 @@ pub record Planned (d mask values : List ℕ) (s : Sub) (w : Bool) (k : ℕ) (t 
   pub rowSets : length (t .rows) ≡ 8
   pub columnSets : length (t .columns) ≡ 8
   pub follows : (n : ℕ) → s .columns < 2 ^ n → Follows t (levels (blockOf n d mask values) k w (subgrid s))
+
+-- ---- the answers of a plan and a store
+
+-- it refuses by the number x and counts nothing
+abbrev pub Refuses : ℕ → Answer → Type 0
+Refuses x a = (a .number ≡ x) × CountsNothing a
+
+-- it accepts with l levels, and counts the ones in the mask's words and the cells of each kind, whatever number of columns holds the mask
+pub record Accepts (d mask values : List ℕ) (l : ℕ) (a : Answer) : Type 0 where
+  pub number : a .number ≡ 0
+  pub levels : a .levels ≡ l
+  pub faultsAre : a .faults ≡ faults (length d) mask
+  pub kindsAre : (n : ℕ) → Below (2 ^ n) mask → CountsKinds (blockOf n d mask values) a
 
 -- ---- a store
 

@@ -5,7 +5,7 @@ ghost use mathlib.Core.Bool.{true, not, xor, cond, _&&_};
 ghost use Prim.Native.Nat.{ℕ, _*_, _^_, _<_, _≤_};
 ghost use lib.ListN.{length};
 ghost use Rattle.bits.specs.Bits.{num, has};
-ghost use Rattle.rdis.specs.Block.{faulty, faults as maskOnes};
+ghost use Rattle.rdis.specs.Block.{faulty};
 ghost use Rattle.rdis.specs.Levels.{taken, plan as planOf};
 ghost use Rattle.grid.specs.Steps.{blockOf, Rows, subgrid, Follows, Planned};
 
@@ -24,7 +24,7 @@ pub struct Taken {
 }
 
 // The stuck cells of a row that are wrong for the data, or the right ones.
-fn stuck_as(wrong: bool, want: u64, mask: u64, value: u64) -> u64
+pub fn stuck_as(wrong: bool, want: u64, mask: u64, value: u64) -> u64
     ensures { λ r. ⌜ ((j : ℕ) → has r j ≡ (has mask j && cond wrong (xor (has want j) (has value j)) (not (xor (has want j) (has value j))))) ⌝ }
 {
     let d = mask & (want ^ value);
@@ -44,7 +44,7 @@ fn row_faults(data: &[u64], mask: &[u64], values: &[u64], s: Sub, wrong: bool, i
 }
 
 // The set of line `i` alone, or of nothing.
-fn mark_if(t: bool, i: usize) -> u64
+pub fn mark_if(t: bool, i: usize) -> u64
     requires { ⌜ i < 64 ⌝ }
     ensures { λ r. ⌜ r ≡ num t * 2 ^ i ⌝ }
 {
@@ -100,18 +100,4 @@ pub fn plan(columns: usize, k: usize, data: &[u64], mask: &[u64], values: &[u64]
         columns: words::low_bits(columns),
     };
     descend(data, mask, values, s, true, k)
-}
-
-// How many cells are stuck: the ones of the mask's words.
-pub fn stuck_cells(mask: &[u64]) -> usize
-    requires { ⌜ length (now mask) ≤ 64 ⌝ }
-    ensures { λ r. ⌜ r ≡ maskOnes (length (now (mask .entry))) (now (mask .entry)) ⌝ }
-{
-    let mut n: usize = 0;
-    let mut i = 0;
-    while i < mask.len() {
-        n += u64::count_ones(mask[i]) as usize;
-        i += 1;
-    }
-    n
 }

@@ -1,8 +1,11 @@
 // Grid blocks: a grid of cells, one word a row, and a counter for each row and each column.
+mod answers;
 mod levels;
 mod shows;
 mod stores;
 
+use crate::answers::accepted;
+use crate::answers::refused;
 use grid_promises::Answer;
 use grid_promises::ReadAnswer;
 use grid_sets::LINES;
@@ -30,16 +33,6 @@ pub fn read(
 {
     let s = shows::show(rows, columns, k, cells, counters, out);
     ReadAnswer { number: s.number }
-}
-
-fn refused(number: usize) -> Answer
-    ensures { λ r. ⌜ (r .number ≡ number) × (r .levels ≡ 0) × (r .faults ≡ 0) ⌝ }
-{
-    Answer {
-        number,
-        levels: 0,
-        faults: 0,
-    }
 }
 
 // Works out levels that mask every fault for the data, and fills the counters with how many of them took each line; or refuses. It needs no cells.
@@ -100,11 +93,7 @@ fn plan_sized(
         taken_columns,
         counters,
     );
-    Answer {
-        number: ACCEPTED,
-        levels: t.used,
-        faults: levels::stuck_cells(mask),
-    }
+    accepted(t.used, data, mask, values)
 }
 
 // Stores the data by counters, whoever made them; or refuses where a stuck cell would then read wrong, and stores nothing.
@@ -191,9 +180,5 @@ fn store_by(
     }
     // Where no stuck cell reads wrong, the inverted data has the stuck values.
     words::copy(apart, cells);
-    Answer {
-        number: ACCEPTED,
-        levels: s.levels,
-        faults: levels::stuck_cells(mask),
-    }
+    accepted(s.levels, data, mask, values)
 }

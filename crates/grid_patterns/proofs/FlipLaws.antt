@@ -3,7 +3,7 @@ use Prim.Native.Nat.{ℕ, _-_, _^_, _≤_, _<_}
 use mathlib.Core.Path.{_≡_, refl, sym, ap, ap₂, _∙_}
 use mathlib.Core.Bool.{Bool, true, false, not, xor, _&&_}
 use mathlib.Core.List.{List}
-use mathlib.Core.Logic.{_≢_, ⊎-elim}
+use mathlib.Core.Logic.{_≢_}
 use native.Mathlib.Nat.{lt-of-le-of-lt, lt-of-lt-of-le}
 use native.Mathlib.Decide.{ℕ-discrete}
 use borrow.Author.Tests.{eqb-true, eq-eqb, ne-eqb}
@@ -14,8 +14,8 @@ use lib.ListN.{length, getD, set, length-set}
 use lib.Pow.{pow-mono}
 use lib.Seq.{getD-set-same, getD-set-other}
 use Rattle.bits.specs.Bits.{has, words, Below}
-use Rattle.bits.proofs.TestLaws.{clash, lt-or-le, xor-false}
-use Rattle.bits.proofs.BitLaws.{has-high, has-xor, has-zero, lowest-set, clear-lowest}
+use Rattle.bits.proofs.TestLaws.{clash, xor-false}
+use Rattle.bits.proofs.BitLaws.{has-xor, has-zero, lowest-set, lowest-below, clear-lowest}
 use Rattle.bits.proofs.ByteLaws.{below-set, is-words}
 use Rattle.rdis.specs.Block.{bit}
 
@@ -60,8 +60,7 @@ module _ (before : List ℕ) (rows columns : ℕ) where
 
       -- the lowest row that is left has a word
       pub flip-inside : trailingZeros 64 rest < length into
-      flip-inside =
-          ⊎-elim (λ l. rw (s .same) l) (λ l. clash (lowest-set 64 rest rest-fits some) (has-high (length before) rest (trailingZeros 64 rest) (s .few) l)) (lt-or-le (trailingZeros 64 rest) (length before))
+      flip-inside = rw (s .same) (lowest-below (length before) 64 rest size (s .few) some)
 
       pub flip-more : columns < 2 ^ 64 → Flipping before rows columns (set into (trailingZeros 64 rest) (bitXor columns (getD into (trailingZeros 64 rest) 0))) (bitAnd rest (rest - 1))
       flip-more c =

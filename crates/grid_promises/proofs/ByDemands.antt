@@ -87,6 +87,7 @@ plan-exactly b k counters a counters′ d = record {
       (bytes-packed w (b .rows) (b .columns) counters′ _ _ (d .wellFormed z) x y);
   levelsAre = λ z. one-depth b k _ _ (d .deepest z) (levels-by-chain b k _ _ _ (planned b k (length counters) (d .lowest .none z)));
   faultsAre = λ z. d .everyFault z ∙ sym (faults-are-cells (b .rows) (b .columns) (b .mask) (plan-mask b k (length counters) (d .lowest .none z)));
+  kindsAre = d .kinds;
 }
 
 pub one-plan-by-demands : OnePlanByDemands
@@ -117,6 +118,7 @@ store-exactly b k counters cells a cells′ d = record {
       (λ h. d .sound z i j _ _ p q h (counter-held (width k) i counters) (counter-held (width k) (b .rows + j) counters)));
   levelsAre = λ z. greatest-is (width k) (b .rows + b .columns) counters (a .levels) (omega (arith, store-range b k counters cells (d .lowest .none z) .rows .0)) (d .deepest z);
   faultsAre = λ z. d .everyFault z ∙ sym (faults-are-cells (b .rows) (b .columns) (b .mask) (store-mask b k counters cells (d .lowest .none z)));
+  kindsAre = d .kinds;
 }
 
 pub one-store-by-demands : OneStoreByDemands

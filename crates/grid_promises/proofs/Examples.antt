@@ -5,7 +5,7 @@ use mathlib.Core.List.{[], _∷_}
 use native.Mathlib.Omega.{arith}
 use lib.Count.{ones, onesIn}
 use Rattle.bits.specs.Bits.{some, sum, most, list, has, word, words, number, digits}
-use Rattle.rdis.specs.Block.{Block, bit, differs, faulty, faults}
+use Rattle.rdis.specs.Block.{Block, bit, differs, faulty, count, faults}
 use Rattle.rdis.specs.Levels.{whole, takes, taken, left, levels, plan}
 use Rattle.rdis.specs.Cells.{flips, holds, stored, misreads}
 use Rattle.rdis.specs.Packing.{width, bytesFor, packed, counter, spareClear, above}
@@ -18,12 +18,12 @@ use Rattle.grid_promises.proofs.StoreDemands.{store-demands}
 abbrev pub G2 : Block
 G2 = block 1 1 (1 ∷ []) (1 ∷ []) (0 ∷ [])
 
-pub g2-plan : Plan G2 1 (0 ∷ []) (record { number = 0; levels = 1; faults = 1 }) (3 ∷ [])
-unfolding planNumber inRange countersSized past plan levels taken left takes whole faulty differs bit has word some xor width bytesFor packed number digits list faults sum ones onesIn
-g2-plan = plan-demands G2 1 (0 ∷ []) (record { number = 0; levels = 1; faults = 1 }) (3 ∷ [])
-    (record { number = refl; untouched = λ l. absurd (omega arith); countersAre = λ _. refl; levelsAre = λ _. refl; faultsAre = λ _. refl })
+pub g2-plan : Plan G2 1 (0 ∷ []) (record { number = 0; levels = 1; faults = 1; wrong = 1; right = 0 }) (3 ∷ [])
+unfolding planNumber inRange countersSized past plan levels taken left takes whole faulty differs bit has word some xor width bytesFor packed number digits list faults count sum ones onesIn
+g2-plan = plan-demands G2 1 (0 ∷ []) (record { number = 0; levels = 1; faults = 1; wrong = 1; right = 0 }) (3 ∷ [])
+    (record { number = refl; untouched = λ l. absurd (omega arith); countersAre = λ _. refl; levelsAre = λ _. refl; faultsAre = λ _. refl; kindsAre = λ _. record { wrong = refl; right = refl; sum = refl } })
 
-pub g2-store : Store G2 1 (3 ∷ []) (0 ∷ []) (record { number = 0; levels = 1; faults = 1 }) (0 ∷ [])
-unfolding storeNumber inRange countersSized past above spareClear counter width bytesFor number some bit has word words list xor misreads flips stored holds most faults sum ones onesIn
-g2-store = store-demands G2 1 (3 ∷ []) (0 ∷ []) (record { number = 0; levels = 1; faults = 1 }) (0 ∷ [])
-    (record { number = refl; untouched = λ l. absurd (omega arith); cellsAre = λ _. refl; levelsAre = λ _. refl; faultsAre = λ _. refl })
+pub g2-store : Store G2 1 (3 ∷ []) (0 ∷ []) (record { number = 0; levels = 1; faults = 1; wrong = 1; right = 0 }) (0 ∷ [])
+unfolding storeNumber inRange countersSized past above spareClear counter width bytesFor number some bit differs faulty has word words list xor misreads flips stored holds most faults count sum ones onesIn
+g2-store = store-demands G2 1 (3 ∷ []) (0 ∷ []) (record { number = 0; levels = 1; faults = 1; wrong = 1; right = 0 }) (0 ∷ [])
+    (record { number = refl; untouched = λ l. absurd (omega arith); cellsAre = λ _. refl; levelsAre = λ _. refl; faultsAre = λ _. refl; kindsAre = λ _. record { wrong = refl; right = refl; sum = refl } })

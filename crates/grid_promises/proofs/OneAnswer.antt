@@ -1,17 +1,18 @@
 -- No second answer is exact; and what does not count: an output and old buffers but for their lengths, and value bits at sound cells. Assumes nothing.
 use Prim.Native.Nat.{ℕ, _<_}
 use mathlib.Core.Path.{_≡_, refl, sym, ap, _∙_}
+use mathlib.Core.Bool.{Bool, true, false}
 use mathlib.Core.List.{List}
 use mathlib.Core.Logic.{⊎-elim}
 use native.Mathlib.Omega.{arith}
 use lib.ListN.{length}
 use Rattle.bits.proofs.TestLaws.{same-test, lt-or-le}
-use Rattle.rdis.specs.Block.{Block}
+use Rattle.rdis.specs.Block.{Block, faultyCells}
 use Rattle.rdis.specs.Packing.{width, inOrder, packed, rowCounter, columnCounter}
 use Rattle.rdis.specs.Theorems.{withValues, SameWrite}
 use Rattle.rdis.proofs.SoundLaws.{sound-ignored}
 use Rattle.grid_promises.specs.Calls.{past, readNumber, planNumber, storeNumber, used, rowsOf, columnsOf}
-use Rattle.grid_promises.specs.Demands.{Untouched}
+use Rattle.grid_promises.specs.Demands.{CountsNothing, Untouched, CountsKinds}
 use Rattle.grid_promises.specs.Promises.{ReadExactly, PlanExactly, StoreExactly}
 use Rattle.grid_promises.specs.Theorems.{OneRead, OnePlan, OneStore, OutputMeasured, OldCountersMeasured, OldCellsMeasured, SameWhereStuck, PlanIgnoresSound, StoreIgnoresSound}
 use Rattle.grid_promises.specs.declared.ReadAnswer.{ReadAnswer}
@@ -38,31 +39,41 @@ one-read m n k cells counters out a a′ x x′ e f =
     let (same, accepted) = same-reads m n k cells counters out out a a′ x x′ refl e f in
     (same, either-way (a .number) (λ l. e .untouched l ∙ sym (f .untouched (rw (← same) l))) accepted)
 
--- ---- plans, and stores: one number, and where they are accepted one L, one F and one buffer
+-- ---- plans, and stores: one number, and where they are accepted the same counts and one buffer
+
+pub record SameCounts (a a′ : Answer) : Type 0 where
+  pub levels : a .levels ≡ a′ .levels
+  pub faults : a .faults ≡ a′ .faults
+  pub wrong : a .wrong ≡ a′ .wrong
+  pub right : a .right ≡ a′ .right
+
+pub same-answer : (a a′ : Answer) → a .number ≡ a′ .number → SameCounts a a′ → a ≡ a′
+same-answer a a′ n c = λ i. record { number = n i; levels = c .levels i; faults = c .faults i; wrong = c .wrong i; right = c .right i }
+
+-- those of two blocks with as many cells of each kind
+pub same-counts : (b d : Block) (a a′ : Answer) → ((w : Bool) → faultyCells b w ≡ faultyCells d w) → a .levels ≡ a′ .levels → a .faults ≡ a′ .faults
+    → CountsKinds b a → CountsKinds d a′ → SameCounts a a′
+same-counts b d a a′ kinds levels faults c e =
+    record { levels = levels; faults = faults; wrong = c .wrong ∙ kinds true ∙ sym (e .wrong); right = c .right ∙ kinds false ∙ sym (e .right) }
+
+no-counts : (a a′ : Answer) → CountsNothing a → CountsNothing a′ → SameCounts a a′
+no-counts a a′ c d =
+    record { levels = c .levels ∙ sym (d .levels); faults = c .faults ∙ sym (d .faults); wrong = c .wrong ∙ sym (d .wrong); right = c .right ∙ sym (d .right) }
 
 module _ (a a′ : Answer) (old old₀ x x′ : List ℕ) (same : a .number ≡ a′ .number) (u : Untouched a old x) (u′ : Untouched a′ old₀ x′)
-    (accepted : a .number ≡ 0 → (a .levels ≡ a′ .levels) × (a .faults ≡ a′ .faults) × (x ≡ x′)) where
-  same-refused : 0 < a .number → (a .levels ≡ a′ .levels) × (a .faults ≡ a′ .faults) × (old ≡ old₀ → x ≡ x′)
-  same-refused l =
-      let (p, q, r) = u l in
-      let (p′, q′, r′) = u′ (rw (← same) l) in
-      (p ∙ sym p′, q ∙ sym q′, λ h. r ∙ h ∙ sym r′)
-
-  same-answer : a ≡ a′
-  same-answer =
-      let levels = either-way (a .number) (λ l. same-refused l .0) (λ z. accepted z .0) in
-      let faults = either-way (a .number) (λ l. same-refused l .1) (λ z. accepted z .1) in
-      λ i. record { number = same i; levels = levels i; faults = faults i }
+    (accepted : a .number ≡ 0 → SameCounts a a′ × (x ≡ x′)) where
+  one-answer : a ≡ a′
+  one-answer = same-answer a a′ same (either-way (a .number) (λ l. no-counts a a′ (u l .0) (u′ (rw (← same) l) .0)) (λ z. accepted z .0))
 
   same-measured : (a ≡ a′) × (a .number ≡ 0 → x ≡ x′)
-  same-measured = (same-answer, λ z. accepted z .2)
+  same-measured = (one-answer, λ z. accepted z .1)
 
   same-end : old ≡ old₀ → (a ≡ a′) × (x ≡ x′)
-  same-end h = (same-answer, either-way (a .number) (λ l. same-refused l .2 h) (λ z. accepted z .2))
+  same-end h = (one-answer, either-way (a .number) (λ l. u l .1 ∙ h ∙ sym (u′ (rw (← same) l) .1)) (λ z. accepted z .1))
 
 -- the block itself
 itself : (b : Block) → SameWrite b (withValues b (b .values))
-itself b = record { plans = λ k. refl; cells = λ r c. refl; wrongs = λ r c. refl }
+itself b = record { plans = λ k. refl; kinds = λ w. refl; cells = λ r c. refl; wrongs = λ r c. refl }
 
 -- values that agree at the stuck cells have bits past the last column where the block's have any
 pasts : (b : Block) (v : List ℕ) → SameWhereStuck b v → past (b .columns) v ≡ past (b .columns) (b .values)
@@ -79,12 +90,11 @@ module _ (b : Block) (v : List ℕ) (k : ℕ) (counters counters₀ : List ℕ) 
   plan-number : a .number ≡ a′ .number
   plan-number = e .number ∙ numbers ∙ sym (f .number)
 
-  plan-accepted : a .number ≡ 0 → (a .levels ≡ a′ .levels) × (a .faults ≡ a′ .faults) × (x ≡ x′)
+  plan-accepted : a .number ≡ 0 → SameCounts a a′ × (x ≡ x′)
   plan-accepted z =
       let z′ : a′ .number ≡ 0 = sym plan-number ∙ z in
       let p = same .plans k in (
-        e .levelsAre z ∙ ap used p ∙ sym (f .levelsAre z′),
-        e .faultsAre z ∙ sym (f .faultsAre z′),
+        same-counts b (withValues b v) a a′ (same .kinds) (e .levelsAre z ∙ ap used p ∙ sym (f .levelsAre z′)) (e .faultsAre z ∙ sym (f .faultsAre z′)) (e .kindsAre z) (f .kindsAre z′),
         e .countersAre z ∙ ap (λ o. packed (width k) (inOrder (b .rows) (b .columns) (rowsOf o) (columnsOf o))) p ∙ sym (f .countersAre z′),
       )
 
@@ -119,10 +129,12 @@ module _ (b : Block) (v : List ℕ) (k : ℕ) (counters cells cells₀ : List �
   store-number : a .number ≡ a′ .number
   store-number = e .number ∙ numbers ∙ sym (f .number)
 
-  store-accepted : a .number ≡ 0 → (a .levels ≡ a′ .levels) × (a .faults ≡ a′ .faults) × (x ≡ x′)
+  store-accepted : a .number ≡ 0 → SameCounts a a′ × (x ≡ x′)
   store-accepted z =
-      let z′ : a′ .number ≡ 0 = sym store-number ∙ z in
-      (e .levelsAre z ∙ sym (f .levelsAre z′), e .faultsAre z ∙ sym (f .faultsAre z′), e .cellsAre z ∙ same .cells _ _ ∙ sym (f .cellsAre z′))
+      let z′ : a′ .number ≡ 0 = sym store-number ∙ z in (
+        same-counts b (withValues b v) a a′ (same .kinds) (e .levelsAre z ∙ sym (f .levelsAre z′)) (e .faultsAre z ∙ sym (f .faultsAre z′)) (e .kindsAre z) (f .kindsAre z′),
+        e .cellsAre z ∙ same .cells _ _ ∙ sym (f .cellsAre z′),
+      )
 
 pub old-cells-measured : OldCellsMeasured
 old-cells-measured b k counters cells cells₀ a a′ x x′ l e f =

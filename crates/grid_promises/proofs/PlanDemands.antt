@@ -21,7 +21,7 @@ use Rattle.rdis.proofs.CounterLaws.{counters-at-most}
 use Rattle.rdis.proofs.TakenLaws.{levels-counted, counts-ext}
 use Rattle.rdis.proofs.PackingLaws.{width-holds, counters-back, plan-packs}
 use Rattle.rdis.proofs.CountLaws.{faults-are-cells}
-use Rattle.rdis.proofs.FaultLaws.{levels-by-faults}
+use Rattle.rdis.proofs.FaultLaws.{levels-by-faults, levels-by-kind}
 use Rattle.grid_promises.specs.Calls.{used, rowsOf, columnsOf}
 use Rattle.grid_promises.specs.Refusals.{InRange, PlanLengths}
 use Rattle.grid_promises.specs.Refusals.{PlanRefused, rangePlan, lengthPlan, pastPlan, chainPlan}
@@ -103,6 +103,9 @@ module _ (b : Block) (k : ℕ) (counters : List ℕ) (a : Answer) (counters′ :
       deepest = λ z. subst (LevelsUsed b k) (sym (e .levelsAre z)) (levels-by-chain b k _ _ _ (masks z));
       everyFault = λ z. e .faultsAre z ∙ faults-are-cells (b .rows) (b .columns) (b .mask) (plan-mask b k (length counters) (none z));
       fewLevels = λ z. rw (e .levelsAre z, e .faultsAre z) (levels-by-faults b k _ _ _ (masks z));
+      kinds = e .kindsAre;
+      fewWrong = λ z. rw (e .levelsAre z, e .kindsAre z .wrong) (levels-by-kind b k _ _ _ (masks z) .0);
+      fewRight = λ z. rw (e .levelsAre z, e .kindsAre z .right) (levels-by-kind b k _ _ _ (masks z) .1);
       wellFormed = formed;
       counted = counts;
     };

@@ -1,6 +1,6 @@
--- A store that is lent what an accepted plan left is accepted, with the plan's L and F, and reads as the data. Assumes nothing.
+-- A store that is lent what an accepted plan left is accepted, with the plan's counts, and reads as the data. Assumes nothing.
 use Prim.Native.Nat.{ℕ, suc, _+_, _^_, _<_, _≤_}
-use mathlib.Core.Path.{_≡_, sym, ap, subst, _∙_}
+use mathlib.Core.Path.{_≡_, refl, sym, ap, subst, _∙_}
 use mathlib.Core.Bool.{false}
 use mathlib.Core.List.{List}
 use mathlib.Core.Logic.{⊎-elim}
@@ -27,6 +27,7 @@ use Rattle.grid_promises.specs.declared.Answer.{Answer}
 use Rattle.grid_promises.proofs.RefusalLaws.{held-is, misread-iff}
 use Rattle.grid_promises.proofs.PlanDemands.{plan-range, plan-lengths, planned, plan-fits}
 use Rattle.grid_promises.proofs.StoreDemands.{store-demands}
+use Rattle.grid_promises.proofs.OneAnswer.{same-answer, same-counts}
 use Rattle.grid_promises.proofs.ByDemands.{plan-exactly, store-exactly, one-read-by-demands}
 
 -- the counters of a plan, packed in bytes of a width that holds them
@@ -103,10 +104,8 @@ module _ (b : Block) (k : ℕ) (old counters cells cells′ : List ℕ) (p s : A
 
   kept : PlanKept b k counters p s cells′
   kept = record {
-    accepted =
-        let numbers : s .number ≡ p .number = accepts ∙ sym z in
-        let faults : s .faults ≡ p .faults = e .everyFault accepts ∙ sym (d .everyFault z) in
-        λ i. record { number = numbers i; levels = same-levels i; faults = faults i };
+    accepted = same-answer s p (accepts ∙ sym z)
+        (same-counts b b s p (λ w. refl) same-levels (e .everyFault accepts ∙ sym (d .everyFault z)) (e .kinds accepts) (d .kinds z));
     held = e .held accepts;
     readsBack = λ out after r q f.
         let back = store-demands b k counters cells s cells′ (store-exactly b k counters cells s cells′ e) .readsBack accepts out q in

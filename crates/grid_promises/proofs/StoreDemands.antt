@@ -105,6 +105,7 @@ module _ (b : Block) (k : ℕ) (counters cells : List ℕ) (a : Answer) (cells�
       misread = thirteen;
       deepest = greatest;
       everyFault = λ z. e .faultsAre z ∙ faults-are-cells (b .rows) (b .columns) (b .mask) (store-mask b k counters cells (none z));
+      kinds = e .kindsAre;
       inside = cells-sized;
       held = λ z i j p q h. ap (λ ws. bit ws i j) (e .cellsAre z) ∙ stuck-held b _ _ i j p q h;
       sound = sound-cells;

@@ -8,7 +8,7 @@ use mathlib.Core.Logic.{_↔_}
 use lib.ListN.{length}
 use Rattle.bits.specs.Bits.{Below}
 use Rattle.bits.specs.Lowest.{Lowest}
-use Rattle.rdis.specs.Block.{Block, Sized, bit, stuck, stuckCells}
+use Rattle.rdis.specs.Block.{Block, Sized, bit, stuck, stuckCells, faultyCells}
 use Rattle.rdis.specs.Chains.{HasChain}
 use Rattle.rdis.specs.Facts.{LevelsUsed, CountsLevels}
 use Rattle.rdis.specs.Packing.{width, bytesFor}
@@ -30,11 +30,26 @@ pub record ReadDemands (m n k : ℕ) (cells counters out : List ℕ) (answer : R
   pub shows : answer .number ≡ 0 → (i j x y : ℕ) → i < m → j < n → Held (width k) counters i x → Held (width k) counters (m + j) y
       → bit after i j ≡ inverted x y (bit cells i j)
 
--- ---- a plan
+-- ---- what a plan and a store share
+
+-- every count is 0
+pub record CountsNothing (answer : Answer) : Type 0 where
+  pub levels : answer .levels ≡ 0
+  pub faults : answer .faults ≡ 0
+  pub wrong : answer .wrong ≡ 0
+  pub right : answer .right ≡ 0
 
 -- a refusal counts nothing and leaves the buffer as it was
 abbrev pub Untouched : Answer → List ℕ → List ℕ → Type 0
-Untouched answer old new = 0 < answer .number → (answer .levels ≡ 0) × (answer .faults ≡ 0) × (new ≡ old)
+Untouched answer old new = 0 < answer .number → CountsNothing answer × (new ≡ old)
+
+-- the stuck cells that are wrong for the data and those that are right for it are counted one by one, and F is their sum
+pub record CountsKinds (b : Block) (answer : Answer) : Type 0 where
+  pub wrong : answer .wrong ≡ faultyCells b true
+  pub right : answer .right ≡ faultyCells b false
+  pub sum : answer .faults ≡ answer .wrong + answer .right
+
+-- ---- a plan
 
 -- the bytes of n counters of w bits: so many as they need, and no spare bit is 1
 pub record WellFormed (w n : ℕ) (bs : List ℕ) : Type 0 where
@@ -59,6 +74,10 @@ pub record PlanDemands (b : Block) (k : ℕ) (counters : List ℕ) (answer : Ans
   -- F counts the stuck cells one by one, and L takes at least 2L - 1 of them
   pub everyFault : answer .number ≡ 0 → answer .faults ≡ stuckCells (b .rows) (b .columns) (b .mask)
   pub fewLevels : answer .number ≡ 0 → 2 * answer .levels ≤ answer .faults + 1
+  -- so are the wrong and the right ones, and L takes at least L of the wrong ones and L - 1 of the right ones
+  pub kinds : answer .number ≡ 0 → CountsKinds b answer
+  pub fewWrong : answer .number ≡ 0 → answer .levels ≤ answer .wrong
+  pub fewRight : answer .number ≡ 0 → answer .levels ≤ answer .right + 1
   -- the counters that the bytes hold say of every line how many levels took it
   pub wellFormed : answer .number ≡ 0 → WellFormed (width k) (b .rows + b .columns) counters′
   pub counted : answer .number ≡ 0 → (r c : ℕ → ℕ) → HeldLines (width k) (b .rows) (b .columns) counters′ r c → CountsLevels b r c
@@ -79,8 +98,9 @@ pub record StoreDemands (b : Block) (k : ℕ) (counters cells : List ℕ) (answe
   pub misread : ((x : ℕ) → x < 13 → StoreRefused b k counters (length cells) x → ⊥) → (answer .number ≡ 13) ↔ Misread b k counters
   -- L is the greatest counter
   pub deepest : answer .number ≡ 0 → Greatest (width k) (b .rows + b .columns) counters (answer .levels)
-  -- F counts the stuck cells one by one
+  -- F counts the stuck cells one by one, and so are the wrong and the right ones
   pub everyFault : answer .number ≡ 0 → answer .faults ≡ stuckCells (b .rows) (b .columns) (b .mask)
+  pub kinds : answer .number ≡ 0 → CountsKinds b answer
   -- a word a row, with no bit past the last column
   pub inside : answer .number ≡ 0 → Sized (b .rows) (b .columns) cells′
   -- a stuck cell holds its stuck value

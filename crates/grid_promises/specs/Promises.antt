@@ -9,7 +9,7 @@ use Rattle.rdis.specs.Levels.{plan}
 use Rattle.rdis.specs.Cells.{stored, reading}
 use Rattle.rdis.specs.Packing.{width, inOrder, packed, counter, rowCounter, columnCounter}
 use Rattle.grid_promises.specs.Calls.{readNumber, planNumber, storeNumber, used, rowsOf, columnsOf}
-use Rattle.grid_promises.specs.Demands.{Untouched, ReadDemands, PlanDemands, StoreDemands}
+use Rattle.grid_promises.specs.Demands.{Untouched, CountsKinds, ReadDemands, PlanDemands, StoreDemands}
 use Rattle.grid_promises.specs.declared.ReadAnswer.{ReadAnswer}
 use Rattle.grid_promises.specs.declared.Answer.{Answer}
 
@@ -33,10 +33,11 @@ pub record PlanExactly (b : Block) (k : ℕ) (counters : List ℕ) (answer : Ans
   -- the number, computed
   pub number : answer .number ≡ planNumber b k (length counters)
   pub untouched : Untouched answer counters counters′
-  -- accepted: the counter bytes, all of them; the levels; and F, the ones in the mask's words
+  -- accepted: the counter bytes, all of them; the levels; F, the ones in the mask's words; and its two kinds of cells, counted one by one
   pub countersAre : answer .number ≡ 0 → counters′ ≡ packed (width k) (inOrder (b .rows) (b .columns) (rowsOf (plan b k)) (columnsOf (plan b k)))
   pub levelsAre : answer .number ≡ 0 → answer .levels ≡ used (plan b k)
   pub faultsAre : answer .number ≡ 0 → answer .faults ≡ faults (b .rows) (b .mask)
+  pub kindsAre : answer .number ≡ 0 → CountsKinds b answer
 
 pub record Plan (b : Block) (k : ℕ) (counters : List ℕ) (answer : Answer) (counters′ : List ℕ) : Type 0 where
   pub exactly : PlanExactly b k counters answer counters′
@@ -48,10 +49,11 @@ pub record StoreExactly (b : Block) (k : ℕ) (counters cells : List ℕ) (answe
   -- the number, computed
   pub number : answer .number ≡ storeNumber b k counters (length cells)
   pub untouched : Untouched answer cells cells′
-  -- accepted: the cells, all of them; the greatest counter; and F, the ones in the mask's words
+  -- accepted: the cells, all of them; the greatest counter; F, the ones in the mask's words; and its two kinds of cells, counted one by one
   pub cellsAre : answer .number ≡ 0 → cells′ ≡ stored b (rowCounter (width k) counters) (columnCounter (width k) (b .rows) counters)
   pub levelsAre : answer .number ≡ 0 → answer .levels ≡ most (b .rows + b .columns) (counter (width k) counters)
   pub faultsAre : answer .number ≡ 0 → answer .faults ≡ faults (b .rows) (b .mask)
+  pub kindsAre : answer .number ≡ 0 → CountsKinds b answer
 
 pub record Store (b : Block) (k : ℕ) (counters cells : List ℕ) (answer : Answer) (cells′ : List ℕ) : Type 0 where
   pub exactly : StoreExactly b k counters cells answer cells′

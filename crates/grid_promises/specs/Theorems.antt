@@ -51,7 +51,7 @@ OneStoreByDemands =
 
 -- how a store ends that is lent what an accepted plan p left: answer s, and cells that the counters read as the data
 pub record PlanKept (b : Block) (k : ℕ) (counters : List ℕ) (p s : Answer) (cells′ : List ℕ) : Type 0 where
-  -- it is accepted, with the plan's L and F
+  -- it is accepted, with all the plan's counts
   pub accepted : s ≡ p
   -- a stuck cell holds its stuck value
   pub held : (i j : ℕ) → i < b .rows → j < b .columns → stuck b i j ≡ true → bit cells′ i j ≡ bit (b .values) i j

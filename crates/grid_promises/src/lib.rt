@@ -6,10 +6,12 @@ pub struct ReadAnswer {
     pub number: usize,
 }
 
-// What a plan and a store answer: 0 or the number of the refusal, the levels, and the stuck cells.
+// What a plan and a store answer: 0 or the number of the refusal, the levels, the stuck cells, and of them the wrong and the right ones for the data.
 #[repr(C)]
 pub struct Answer {
     pub number: usize,
     pub levels: usize,
     pub faults: usize,
+    pub wrong: usize,
+    pub right: usize,
 }

@@ -1,14 +1,14 @@
 -- The grid cases of document 01 that decide between the definitions and the errors that have been made, computed. Assumes nothing.
 use Prim.Native.Nat.{ℕ}
 use mathlib.Core.Path.{_≡_, refl}
-use mathlib.Core.Bool.{false, xor}
+use mathlib.Core.Bool.{true, false, xor}
 use mathlib.Core.List.{List, [], _∷_}
 use mathlib.Core.Logic.{inl, inr}
 use lib.Count.{ones, onesIn}
 use lib.Dec.{lit<}
 use Rattle.bits.proofs.TestLaws.{clash}
 use Rattle.bits.specs.Bits.{some, sum, list, has, word, words, number, digits}
-use Rattle.rdis.specs.Block.{Block, bit, differs, faulty, count, stuckCells, faults}
+use Rattle.rdis.specs.Block.{Block, bit, differs, faulty, count, stuckCells, faultyCells, faults}
 use Rattle.rdis.specs.Levels.{Outcome, masked, unmaskable, whole, takes, taken, left, levels, plan}
 use Rattle.rdis.specs.Cells.{flips, holds, stored, reading}
 use Rattle.rdis.specs.Chains.{Cell, IsChain, HasChain}
@@ -18,10 +18,10 @@ use Rattle.rdis.specs.Packing.{width, bytesFor, inOrder, packed, spareCl
 abbrev square : ℕ → List ℕ → List ℕ → Block
 square n m v = record { rows = n; columns = n; data· = list n (λ _. 0); mask = m; values = v }
 
--- L, F and the stuck cells, then row counters, column counters, packed counters, cells, and what reading gives; nothing for a refusal
+-- L, F, the stuck cells, the wrong and the right ones, then row counters, column counters, packed counters, cells, and what reading gives; nothing for a refusal
 abbrev shown : Block → ℕ → Outcome → List (List ℕ)
 shown b k (masked l r c) =
-    (l ∷ faults (b .rows) (b .mask) ∷ stuckCells (b .rows) (b .columns) (b .mask) ∷ [])
+    (l ∷ faults (b .rows) (b .mask) ∷ stuckCells (b .rows) (b .columns) (b .mask) ∷ faultyCells b true ∷ faultyCells b false ∷ [])
     ∷ list (b .rows) r
     ∷ list (b .columns) c
     ∷ packed (width k) (inOrder (b .rows) (b .columns) r c)
@@ -47,12 +47,12 @@ G8 = square 2 (3 ∷ 2 ∷ []) (2 ∷ 0 ∷ [])
 
 -- G6 with 3 levels and with 2, G5 with 1, 2 and 3, G8 with 1
 pub cases : run G6 3 ∷ run G6 2 ∷ run G5 1 ∷ run G5 2 ∷ run G5 3 ∷ run G8 1 ∷ [] ≡
-    ((3 ∷ 5 ∷ 5 ∷ []) ∷ (2 ∷ 3 ∷ 1 ∷ []) ∷ (1 ∷ 3 ∷ 2 ∷ []) ∷ (0x5E ∷ 0x0B ∷ []) ∷ (1 ∷ 3 ∷ 7 ∷ []) ∷ (0 ∷ 0 ∷ 0 ∷ []) ∷ [])
+    ((3 ∷ 5 ∷ 5 ∷ 3 ∷ 2 ∷ []) ∷ (2 ∷ 3 ∷ 1 ∷ []) ∷ (1 ∷ 3 ∷ 2 ∷ []) ∷ (0x5E ∷ 0x0B ∷ []) ∷ (1 ∷ 3 ∷ 7 ∷ []) ∷ (0 ∷ 0 ∷ 0 ∷ []) ∷ [])
     ∷ []
     ∷ []
     ∷ []
     ∷ []
-    ∷ ((1 ∷ 3 ∷ 3 ∷ []) ∷ (1 ∷ 0 ∷ []) ∷ (0 ∷ 1 ∷ []) ∷ (0x09 ∷ []) ∷ (2 ∷ 0 ∷ []) ∷ (0 ∷ 0 ∷ []) ∷ [])
+    ∷ ((1 ∷ 3 ∷ 3 ∷ 1 ∷ 2 ∷ []) ∷ (1 ∷ 0 ∷ []) ∷ (0 ∷ 1 ∷ []) ∷ (0x09 ∷ []) ∷ (2 ∷ 0 ∷ []) ∷ (0 ∷ 0 ∷ []) ∷ [])
     ∷ []
 unfolding plan levels taken left takes whole faulty differs bit some sum list has word words xor packed bytesFor width number digits flips holds stored reading faults count ones onesIn
 cases = refl

@@ -1,19 +1,20 @@
--- A chain with a cell twice can be made longer, so the cells of a longest chain are distinct, and at most as many as the stuck cells. Assumes nothing.
+-- A chain with a cell twice can be made longer, so the cells of a longest chain are distinct, and at most as many as the stuck cells of their kind.
+-- Assumes nothing.
 use Prim.Native.Nat.{ℕ, zero, suc, _+_, _-_, _*_, _≤_, _<_}
 use mathlib.Core.Path.{_≡_, refl, sym, ap, subst, subst₃, _∙_}
 use mathlib.Core.Bool.{Bool, true, false, not, Bool·not-not}
 use mathlib.Core.Logic.{_⊎_, inl, inr}
 use native.Mathlib.Omega.{arith}
 use Rattle.bits.proofs.TestLaws.{clash, and-left}
-use Rattle.rdis.specs.Block.{Block, stuck, faulty, stuckCells}
+use Rattle.rdis.specs.Block.{Block, stuck, faulty, faultyCells}
 use Rattle.rdis.specs.Chains.{Cell, Way, turn, Step, Is, HasChain}
 use Rattle.rdis.specs.Facts.{LevelsUsed}
-use Rattle.rdis.specs.Theorems.{LevelsByFaults}
-use Rattle.rdis.proofs.Walks.{twice, turns-add, turns-less, turn-turn, colour, way, Walk, chain-walk, walk-chain, prefix, after}
+use Rattle.rdis.specs.Theorems.{LevelsByKind, LevelsByFaults}
+use Rattle.rdis.proofs.Walks.{twice, twice-is, turns-add, turns-twice, turns-less, turn-turn, colour, way, Walk, chain-walk, walk-chain, prefix, after}
 use Rattle.rdis.proofs.Taking.{same}
 use Rattle.rdis.proofs.LevelLaws.{levels-by-chain}
 use Rattle.rdis.proofs.CounterLaws.{other-sense}
-use Rattle.rdis.proofs.CountLaws.{cells-faults, distinct-cells}
+use Rattle.rdis.proofs.CountLaws.{cells-faults, two-kinds, distinct-cells}
 
 -- the walk up to cell j, where cell i stands again, and then once more from cell i on
 again : {P : Bool → Cell → Type 0} {w : Bool} {d : Way} {n : ℕ} (W : Walk P w d n) (i h j : ℕ) → j ≡ i + twice (suc h) → j ≤ n → W .cell i ≡ W .cell j
@@ -62,25 +63,38 @@ longer b d n W i j l k e = go (even (colour true i) (j - i) same-colour)
     go (zero, p) = absurd (omega arith)
     go (suc h, p) = prefix (suc (suc n)) (omega arith) (again W i h j (omega arith) k e)
 
--- a chain of n + 1 cells, where there is none of n + 3, has as many stuck cells
-chain-cells : (b : Block) (n : ℕ) → HasChain b (suc n) → (HasChain b (suc (suc (suc n))) → ⊥) → suc n ≤ stuckCells (b .rows) (b .columns) (b .mask)
+-- the cells at so many places of a walk, where there is no chain of two cells more, are as many cells of the block, if they are of one colour
+distinct-places : (b : Block) (n : ℕ) (d : Way) → Walk (Is b) true d n → (HasChain b (suc (suc (suc n))) → ⊥) → (w : Bool) (N : ℕ) (p : ℕ → ℕ)
+    → ((i : ℕ) → i < N → (p i ≤ n) × (colour true (p i) ≡ w)) → ((i j : ℕ) → i < j → p i < p j) → N ≤ faultyCells b w
 unfolding HasChain
-chain-cells b n (cs, e, h) longest = go (chain-walk (Is b) n cs e h)
-  where
-    go : (d : Way) × Walk (Is b) true d n → suc n ≤ stuckCells (b .rows) (b .columns) (b .mask)
-    go (d, W) =
-        distinct-cells (b .rows) (b .columns) (suc n) (W .cell) (stuck b)
-        (λ m l. let x = W .is m (omega arith) in (x .0, x .1, is-stuck b (colour true m) (W .cell m) x))
-        (λ i j l m p q. longest (walk-chain (Is b) (suc (suc n)) d (longer b d n W i j l (omega arith) (λ t. record { row = p t; column = q t }))))
+distinct-places b n d W longest w N p places rising =
+    distinct-cells (b .rows) (b .columns) N (λ i. W .cell (p i)) (faulty b w)
+    (λ i l. let (k, e) = places i l in subst (λ v. Is b v (W .cell (p i))) e (W .is (p i) k))
+    (λ i j l m e f. longest (walk-chain (Is b) (suc (suc n)) d (longer b d n W (p i) (p j) (rising i j l) (places j m .0) (λ t. record { row = e t; column = f t }))))
 
-levels-cells : (b : Block) (k l : ℕ) → LevelsUsed b k l → 2 * l ≤ stuckCells (b .rows) (b .columns) (b .mask) + 1
-levels-cells b k zero u = omega arith
-levels-cells b k (suc n) u =
-    let x : 2 * suc n - 1 ≡ suc (2 * n) = omega arith in
-    let y : suc (suc (suc (2 * n))) ≡ 2 * suc (suc n) - 1 = omega arith in
-    let z : suc (2 * n) ≤ stuckCells (b .rows) (b .columns) (b .mask) =
-    chain-cells b (2 * n) (subst (HasChain b) x (u .reached (omega arith))) (λ h. absurd (omega (arith, u .greatest (suc (suc n)) (omega arith) (subst (HasChain b) y h)))) in
-    omega arith
+-- in a chain the wrong cells are at the even places, from 0 on, and the right ones between them
+kinds-used : (b : Block) (k l : ℕ) → LevelsUsed b k l → (l ≤ faultyCells b true) × (l ≤ faultyCells b false + 1)
+unfolding HasChain
+kinds-used b k zero u = (omega arith, omega arith)
+kinds-used b k (suc h) u =
+    let x : 2 * suc h - 1 ≡ suc (twice h) = omega (arith, twice-is h) in
+    let y : suc (suc (suc (twice h))) ≡ 2 * suc (suc h) - 1 = omega (arith, twice-is h) in
+    let (cs, e, chain) = subst (HasChain b) x (u .reached (omega arith)) in
+    let (d, W) = chain-walk (Is b) (twice h) cs e chain in
+    let places = distinct-places b (twice h) d W (λ z. absurd (omega (arith, u .greatest (suc (suc h)) (omega arith) (subst (HasChain b) y z)))) in (
+      places true (suc h) twice
+          (λ i l. (omega (arith, twice-is i, twice-is h), turns-twice not Bool·not-not true i)) (λ i j l. omega (arith, twice-is i, twice-is j)),
+      omega (
+        arith,
+        places false h (λ i. suc (twice i))
+            (λ i l. (omega (arith, twice-is i, twice-is h), turns-twice not Bool·not-not false i)) (λ i j l. omega (arith, twice-is i, twice-is j)),
+      ),
+    )
+
+pub levels-by-kind : LevelsByKind
+levels-by-kind b k l r c e = kinds-used b k l (levels-by-chain b k l r c e)
 
 pub levels-by-faults : LevelsByFaults
-levels-by-faults b k l r c e = omega (arith, levels-cells b k l (levels-by-chain b k l r c e), cells-faults (b .rows) (b .columns) (b .mask))
+levels-by-faults b k l r c e =
+    let (wrong, right) = levels-by-kind b k l r c e in
+    omega (arith, two-kinds b, cells-faults (b .rows) (b .columns) (b .mask))

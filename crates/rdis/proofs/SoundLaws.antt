@@ -11,6 +11,7 @@ use Rattle.rdis.specs.Block.{Block, bit, stuck, differs, faulty}
 use Rattle.rdis.specs.Levels.{Subgrid, takes, takesRow, takesColumn, taken, left, whole, unmaskable, none, more, levels, plan}
 use Rattle.rdis.specs.Cells.{flips, holds, stored, misreads}
 use Rattle.rdis.specs.Theorems.{withValues, SoundIgnored}
+use Rattle.rdis.proofs.CountLaws.{count-ext}
 
 takes-ext : (n own other : ℕ) (f g : ℕ → ℕ → Bool) (i : ℕ) → ((j : ℕ) → j < n → f i j ≡ g i j) → takes n own other f i ≡ takes n own other g i
 unfolding takes
@@ -65,11 +66,17 @@ misread-cell : (s f d v v′ : Bool) → (s ≡ true → v ≡ v′) → s && xo
 misread-cell true f d v v′ h = ap (λ x. xor (xor f x) d) (h refl)
 misread-cell false f d v v′ h = refl
 
+-- where the values agree at the stuck cells, the same cells are wrong, and the same are right
+module _ (b : Block) (v : List ℕ) (h : (i j : ℕ) → i < b .rows → j < b .columns → stuck b i j ≡ true → bit (b .values) i j ≡ bit v i j) where
+  same-kind : (w : Bool) (i j : ℕ) → i < b .rows → j < b .columns → faulty b w i j ≡ faulty (withValues b v) w i j
+  unfolding faulty differs
+  same-kind w i j p q = faulty-cell (stuck b i j) w (bit (b .data·) i j) (bit (b .values) i j) (bit v i j) (h i j p q)
+
 pub sound-ignored : SoundIgnored
-unfolding faulty differs stored holds misreads
+unfolding stored holds misreads
 sound-ignored b v h = record {
-  plans = plan-ext (b .rows) (b .columns) (b .data·) (b .mask) (b .values) (b .data·) (b .mask) v
-      (λ w i j p q. faulty-cell (stuck b i j) w (bit (b .data·) i j) (bit (b .values) i j) (bit v i j) (h i j p q));
+  plans = plan-ext (b .rows) (b .columns) (b .data·) (b .mask) (b .values) (b .data·) (b .mask) v (same-kind b v h);
+  kinds = λ w. count-ext (b .rows) (b .columns) (faulty b w) (faulty (withValues b v) w) (same-kind b v h w);
   cells = λ r c. words-ext (b .rows) (b .columns) (holds b r c) (holds (withValues b v) r c)
       (λ i j p q. held-cell (stuck b i j) (bit (b .values) i j) (bit v i j) (xor (flips r c i j) (bit (b .data·) i j)) (h i j p q));
   wrongs = λ r c. some-ext (b .rows) _ _ (λ i p. some-ext (b .columns) _ _

@@ -49,6 +49,10 @@ count m n test = sum m (λ i. sum n (λ j. num (test i j)))
 abbrev pub stuckCells : ℕ → ℕ → List ℕ → ℕ
 stuckCells m n mask = count m n (bit mask)
 
+-- the stuck cells that are wrong for the data (w is true), or those that are right for it (w is false), cell by cell
+abbrev pub faultyCells : Block → Bool → ℕ
+faultyCells b w = count (b .rows) (b .columns) (faulty b w)
+
 -- F: the ones in the mask's words
 unfoldable pub faults : ℕ → List ℕ → ℕ
 faults m mask = sum m (λ i. ones (getD mask i 0))

@@ -2,12 +2,12 @@
 -- and columns, w a width in bits. Assumes nothing.
 use Prim.Native.Nat.{ℕ, _+_, _*_, _/_, _%_, _^_, _<_, _≤_}
 use mathlib.Core.Path.{_≡_}
-use mathlib.Core.Bool.{true, false}
+use mathlib.Core.Bool.{Bool, true, false}
 use mathlib.Core.List.{List}
 use mathlib.Core.Logic.{_↔_}
 use lib.ListN.{length, getD}
 use Rattle.bits.specs.Bits.{has, at, bytes, Below}
-use Rattle.rdis.specs.Block.{Block, Sized, bit, stuck, wrong, stuckCells, faults}
+use Rattle.rdis.specs.Block.{Block, Sized, bit, stuck, wrong, stuckCells, faultyCells, faults}
 use Rattle.rdis.specs.Levels.{masked, unmaskable, plan}
 use Rattle.rdis.specs.Cells.{flips, stored, reading, misreads}
 use Rattle.rdis.specs.Chains.{HasChain}
@@ -47,6 +47,14 @@ OneCount =
     (b : Block) (r c r′ c′ : ℕ → ℕ) → CountsLevels b r c → CountsLevels b r′ c′ → ((i : ℕ) → i < b .rows → r i ≡ r′ i) × ((j : ℕ) → j < b .columns → c j ≡ c′ j)
 
 -- ---- 3. levels and faults
+
+-- the levels used are at most the wrong stuck cells, and at most one more than the right ones: in a longest chain no cell comes twice
+abbrev pub LevelsByKind : Type 0
+LevelsByKind = (b : Block) (k l : ℕ) (r c : ℕ → ℕ) → Masked b k l r c → (l ≤ faultyCells b true) × (l ≤ faultyCells b false + 1)
+
+-- every stuck cell is wrong or right, and none is both
+abbrev pub TwoKinds : Type 0
+TwoKinds = (b : Block) → stuckCells (b .rows) (b .columns) (b .mask) ≡ faultyCells b true + faultyCells b false
 
 -- twice the levels used are at most F + 1, whatever the mask's words
 abbrev pub LevelsByFaults : Type 0
@@ -139,9 +147,10 @@ ReadBackPacked =
 abbrev pub withValues : Block → List ℕ → Block
 withValues b v = record { rows = b .rows; columns = b .columns; data· = b .data·; mask = b .mask; values = v }
 
--- two blocks with the same plan and, by any counters, the same cells; in both or in neither a stuck cell then reads wrong
+-- two blocks with the same plan, as many stuck cells of each kind and, by any counters, the same cells; in both or in neither a stuck cell then reads wrong
 pub record SameWrite (b d : Block) : Type 0 where
   pub plans : (k : ℕ) → plan b k ≡ plan d k
+  pub kinds : (w : Bool) → faultyCells b w ≡ faultyCells d w
   pub cells : (r c : ℕ → ℕ) → stored b r c ≡ stored d r c
   pub wrongs : (r c : ℕ → ℕ) → misreads b r c ≡ misreads d r c
 

@@ -1,4 +1,4 @@
-use mathlib.Core.Path.{_≡_, refl, sym, _∙_}
+use mathlib.Core.Path.{_≡_, sym, _∙_}
 use mathlib.Core.Bool.{false}
 use native.Mathlib.Omega.{arith}
 use borrow.Author.Needs.{needs}
@@ -7,13 +7,16 @@ use lib.ListN.{length}
 use Rattle.grid_promises.specs.Calls.{planPast}
 use Rattle.grid_promises.specs.Refusals.{InRange}
 use Rattle.grid_promises.proofs.RefusalLaws.{in-range}
-use Rattle.grid.specs.Steps.{blockOf}
+use Rattle.grid.specs.Steps.{blockOf, Rows}
 use Rattle.grid.proofs.PlanLaws.{plan-past, plan-unmaskable, plan-done}
 use Rattle.grid.proofs.plan_sized.Statement.{statement}
 use Rattle.grid.proofs.plan_sized.Tie as tie
 
 range : (s : tie.Start) → InRange (length (s .args .«data» .now)) (s .args .columns) (s .args .k)
 range s = in-range (length (s .args .«data» .now)) (s .args .columns) (s .args .k) .0 (s .pre .ranges)
+
+words : (s : tie.Start) → let a = s .args in Rows (a .«data» .now) (a .mask .now) (a .values .now)
+words s = record { few = range s .rows .1; masks = s .pre .masks; stuckAt = s .pre .stuckAt }
 
 -- where no word has a bit past the last column
 abbrev begin : tie.Else1 → tie.Start
@@ -37,9 +40,7 @@ plan-sized-spec =
     plan-past (a .columns) (a .k) (a .«data» .now) (a .mask .now) (a .values .now) (a .counters .now) (s .pre) (c .refused .result)
     (not-false _ (sym (c .before .before .all-within .ensures) ∙ not-true _ (c .before .if1 .taken))) (c .refused .ensures))
     -- plan-requires
-    (λ c κs.
-    let s = begin c in
-    (record { few = range s .rows .1; masks = s .pre .masks; stuckAt = s .pre .stuckAt }, range s .columns .1, omega (arith, range s .levels .1)))
+    (λ c κs. let s = begin c in (words s, range s .columns .1, omega (arith, range s .levels .1)))
     -- refused-requires-2
     (λ c κs. search needs)
     -- returns-2
@@ -52,8 +53,8 @@ plan-sized-spec =
     (not-true _ (c .before .if2 .taken)) (c .refused2 .ensures))
     -- pack-requires
     (λ c κs. search needs)
-    -- stuck-cells-requires
-    (λ c κs. let s = begin (c .before .before .before .before .before .before .before .before .before) in omega (arith, s .pre .masks, range s .rows .1))
+    -- accepted-requires
+    (λ c κs. words (begin (c .before .before .before .before .before .before .before .before .before)))
     -- same-length
     (λ c. search needs)
     -- returns-3
@@ -63,4 +64,4 @@ plan-sized-spec =
     let a = s .args in
     let t = c .before .before .before .before .before .before .before .before .before .plan in
     plan-done (a .columns) (a .k) (a .«data» .now) (a .mask .now) (a .values .now) (a .counters .now) (s .pre) _ (inside e) (t .result) (t .ensures)
-    _ (not-false _ (c .before .before .before .before .before .before .before .if2 .left)) refl refl (c .stuck-cells .ensures) (c .before .before .before .pack .ensures)))
+    _ (not-false _ (c .before .before .before .before .before .before .before .if2 .left)) (c .accepted .ensures) (c .before .before .before .pack .ensures)))

@@ -3,11 +3,12 @@ use mathlib.Core.List.{[], _∷_}
 use lib.Dec.{lit<, lit≤}
 use borrow.Author.Needs.{needs}
 use Rattle.bits.specs.Bits.{list}
+use Rattle.wire.specs.Text.{decimal}
 use Rattle.wire.proofs.PartLaws.{again}
 use Rattle.calls.specs.Format.{table, formOf}
-use Rattle.calls.specs.Calls.{gridPlan}
+use Rattle.calls.specs.Calls.{counts, gridPlan}
 use Rattle.calls.proofs.FormatLaws.{stands-at}
-use Rattle.calls.proofs.TextLaws.{ended, word, put-line}
+use Rattle.calls.proofs.TextLaws.{ended, word, put-rest}
 use Rattle.calls.proofs.CallLaws.{put-again, put-answer}
 use Rattle.calls.proofs.call.grid_plan.Statement.{statement}
 use Rattle.calls.proofs.call.grid_plan.Tie as tie
@@ -43,22 +44,20 @@ grid-plan-spec =
     (λ c. c .before .before .before .before .before .before .before .load-bytes .ensures .fits .0)
     -- slice-aggregate-plan-4
     (λ c. c .before .before .before .before .before .before .before .before .load-bytes .ensures .fits .1)
-    -- plan-requires, put-number-requires, put-count-requires, put-count-requires-2
-    (λ c κs. tt) (λ c κs. tt) (λ c κs. tt) (λ c κs. tt)
+    -- plan-requires, put-answer-requires
+    (λ c κs. tt) (λ c κs. tt)
     -- array-share-prefix-counters
-    (λ c. let m = c .before .before .before .before .before .before .before .before .before .before .before .before .before .before in again (m .plan .last .1 .1 .1 .1 .1 .1 .0) _ (m .before .before .before .before .before .before .before .before .before .load-bytes .ensures .fits .0) (m .plan .kept .1 .1 .1 .1 .1 .1 .0) .fits)
+    (λ c. let m = c .before .before .before .before .before .before in again (m .plan .last .1 .1 .1 .1 .1 .1 .0) _ (m .before .before .before .before .before .before .before .before .before .load-bytes .ensures .fits .0) (m .plan .kept .1 .1 .1 .1 .1 .1 .0) .fits)
     -- slice-aggregate-put-bytes
-    (λ c. let m = c .before .before .before .before .before .before .before .before .before .before .before .before .before .before .before in again (m .plan .last .1 .1 .1 .1 .1 .1 .0) _ (m .before .before .before .before .before .before .before .before .before .load-bytes .ensures .fits .0) (m .plan .kept .1 .1 .1 .1 .1 .1 .0) .count)
+    (λ c. let m = c .before .before .before .before .before .before .before in again (m .plan .last .1 .1 .1 .1 .1 .1 .0) _ (m .before .before .before .before .before .before .before .before .before .load-bytes .ensures .fits .0) (m .plan .kept .1 .1 .1 .1 .1 .1 .0) .count)
     -- put-bytes-requires, put-end-requires, same-length
     (λ c κs. tt) (λ c κs. tt) (λ c. search needs)
     -- returns
     (λ c.
-    let m = c .before .before .before .before .before .before .before .before .before .before .before .before .before .before .before .before .before .before .before .before .before .before in
+    let m = c .before .before .before .before .before .before .before .before .before .before .before .before .before .before in
     put-answer (m .before .before .before .before .before .before .before .before .before .before .before .before .before .before .before .before .before .before .before .before .before .before .args .s .now) 3 (gridPlan (m .plan .ensures) (m .plan .kept .1 .1 .1 .1 .1 .1 .0))
     (λ i. m .before .before .before .before .before .before .before .call-number .ensures i ∷ m .before .before .before .before .before .before .call-number2 .ensures i ∷ m .before .before .before .before .before .call-number3 .ensures i ∷ [])
     (λ i. m .before .before .before .before .before .before .before .before .before .before .before .before .before .before .before .before .before .before .load-words .ensures .holds i ∷ m .before .before .before .before .before .before .before .before .before .before .before .before .before .before .before .load-words2 .ensures .holds i ∷ m .before .before .before .before .before .before .before .before .before .before .before .before .load-words3 .ensures .holds i ∷ m .before .before .before .before .before .before .before .before .before .load-bytes .ensures .holds i ∷ [])
-    (put-line (c .before .before .before .before .before .before .before .before .before .before .before .before .before .before .before .before .before .before .before .put-number .ensures)
-    (word (c .before .before .before .before .before .before .before .before .before .before .before .before .before .before .before .put-count .ensures)
-    (word (c .before .before .before .before .before .before .before .before .before .before .before .put-count2 .ensures)
+    (put-rest (decimal (m .plan .result .number)) (counts (m .plan .result)) (c .before .before .before .before .before .before .before .before .before .before .before .put-answer .ensures)
     (word (put-again 2 (again (m .plan .last .1 .1 .1 .1 .1 .1 .0) _ (m .before .before .before .before .before .before .before .before .before .load-bytes .ensures .fits .0) (m .plan .kept .1 .1 .1 .1 .1 .1 .0)) (c .before .before .before .before .before .before .put-bytes .ensures))
-    (ended (c .before .before .put-end .ensures))))))))
+    (ended (c .before .before .put-end .ensures))))))
