@@ -1,6 +1,7 @@
 /* Repair codes for memory whose cells get stuck: the calls of libernavluq.a, for C99 and C++.
  *
- * The machine: x86-64 Linux with the System V ABI, where size_t has 64 bits. The archive links into nothing else, and needs memset and memcpy alone.
+ * The machine: x86-64 Linux with the System V ABI, where size_t has 64 bits. The archive is for no other machine, and needs memset and memcpy alone.
+ * Header and archive must be of one release: a release may add fields to an answer, and the linker does not notice an object with fewer.
  *
  * What may be passed: everything. A buffer may have any length, NULL with length 0 included, and a number may be any number. Every call ends. It does its
  * work and answers number 0, or it answers the number of one refusal; then every count in the answer is 0 and no buffer is altered. If several refusals
@@ -109,7 +110,7 @@ typedef struct {
 /* Plans a write of data to a block, and is lent no cells. Takes its rows and columns (1 to 64 each), K (1 to 3), the data, which cells are stuck and at
  * what. Accepted, counters holds how many levels took each row and each column. A store with these counters and all else the same is then accepted if its
  * cells have the right length, and answers the same. Of the old counters only the length counts.
- * Refusals: 1, 2, 3 and 7, and 7 exactly where K levels leave a cell stuck at the wrong bit. */
+ * Refusals: 1, 2, 3 and 7, and 7 exactly where after K levels some stuck cell would still read wrong. */
 ernavluq_grid_answer ernavluq_grid_plan(
     size_t rows, size_t columns, size_t k,
     const uint64_t *data, size_t data_length,
