@@ -76,6 +76,13 @@ readEdges =
 abbrev pub fourStuck : (data₀ data₁ value₀ value₁ : ℕ) → Block
 fourStuck d₀ d₁ v₀ v₁ = block 2 5 (d₀ ∷ d₁ ∷ []) (0x16 ∷ 0x01 ∷ []) (v₀ ∷ v₁ ∷ [])
 
+-- two stuck cells for the data 0, in one column and in one row
+abbrev pub inColumn : ℕ → Block
+inColumn value = block 2 1 (0 ∷ 0 ∷ []) (1 ∷ 1 ∷ []) (value ∷ value ∷ [])
+
+abbrev pub inRow : ℕ → Block
+inRow values = block 1 2 (0 ∷ []) (3 ∷ []) (values ∷ [])
+
 abbrev pub planEdges : List Row
 planEdges =
     -- the row counters come first where rows and columns are not as many
@@ -96,6 +103,13 @@ planEdges =
     ∷ record { call = gridPlan (fourStuck 0x0D 0x12 0x00 0x0C) 1 (9 ∷ []); expected = planned 1 4 1 3 (0x11 ∷ []) (1 ∷ 0 ∷ 0 ∷ 0 ∷ 1 ∷ 0 ∷ 0 ∷ []) }
     -- three and one, with the data inverted
     ∷ record { call = gridPlan (fourStuck 0x12 0x0D 0x09 0x12) 1 (9 ∷ []); expected = planned 1 4 3 1 (0x4F ∷ []) (1 ∷ 1 ∷ 1 ∷ 1 ∷ 0 ∷ 0 ∷ 1 ∷ []) }
+    -- cell by cell, and no line once: two wrong cells in one column and in one row, and two right ones
+    ∷ record { call = gridPlan (inColumn 1) 1 (9 ∷ []); expected = planned 1 2 2 0 (0x07 ∷ []) (1 ∷ 1 ∷ 1 ∷ []) }
+    ∷ record { call = gridPlan (inRow 3) 1 (9 ∷ []); expected = planned 1 2 2 0 (0x07 ∷ []) (1 ∷ 1 ∷ 1 ∷ []) }
+    ∷ record { call = gridPlan (inColumn 0) 1 (9 ∷ []); expected = planned 0 2 0 2 (0x00 ∷ []) (0 ∷ 0 ∷ 0 ∷ []) }
+    ∷ record { call = gridPlan (inRow 0) 1 (9 ∷ []); expected = planned 0 2 0 2 (0x00 ∷ []) (0 ∷ 0 ∷ 0 ∷ []) }
+    -- a refusal counts nothing, though there is a stuck cell
+    ∷ record { call = gridPlan (block 1 1 (2 ∷ []) (1 ∷ []) (0 ∷ [])) 1 (9 ∷ []); expected = refused 3 (9 ∷ []) }
     -- two and four, in five rows of two
     ∷ record {
       call = gridPlan (block 5 2 (1 ∷ 2 ∷ 3 ∷ 0 ∷ 2 ∷ []) (3 ∷ 0 ∷ 2 ∷ 1 ∷ 3 ∷ []) (0 ∷ 2 ∷ 1 ∷ 0 ∷ 2 ∷ [])) 2 (9 ∷ 9 ∷ []);
@@ -186,6 +200,13 @@ storeEdges =
     -- it counts the cells that are wrong for the data, though they read right by the counters, those of a plan or with column 0 raised
     ∷ record { call = gridStore (fourStuck 0x0D 0x12 0x09 0x12) 1 (0x11 ∷ []) (7 ∷ 8 ∷ []); expected = stores 1 4 1 3 (0x09 ∷ 0x12 ∷ []) }
     ∷ record { call = gridStore (fourStuck 0x0D 0x12 0x00 0x0C) 1 (0x15 ∷ []) (7 ∷ 8 ∷ []); expected = stores 1 4 1 3 (0x08 ∷ 0x12 ∷ []) }
+    -- cell by cell too
+    ∷ record { call = gridStore (inColumn 1) 1 (0x07 ∷ []) (7 ∷ 8 ∷ []); expected = stores 1 2 2 0 (1 ∷ 1 ∷ []) }
+    ∷ record { call = gridStore (inRow 3) 1 (0x07 ∷ []) (7 ∷ []); expected = stores 1 2 2 0 (3 ∷ []) }
+    ∷ record { call = gridStore (inColumn 0) 1 (0x00 ∷ []) (7 ∷ 8 ∷ []); expected = stores 0 2 0 2 (0 ∷ 0 ∷ []) }
+    ∷ record { call = gridStore (inRow 0) 1 (0x00 ∷ []) (7 ∷ []); expected = stores 0 2 0 2 (0 ∷ []) }
+    -- a refusal counts nothing, though there is a stuck cell: a spare bit
+    ∷ record { call = storeCell G2 1 0x07; expected = refused 3 (7 ∷ []) }
     -- the last of 64 columns: its counter is in a ninth byte
     ∷ record {
       call = gridStore (block 1 64 (0xFFFFFFFFFFFFFFFF ∷ []) (1 ∷ []) (1 ∷ [])) 1 (1 ∷ replicate 7 0 ++ (1 ∷ [])) (7 ∷ []);

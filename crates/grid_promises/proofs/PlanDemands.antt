@@ -21,14 +21,18 @@ use Rattle.rdis.proofs.CounterLaws.{counters-at-most}
 use Rattle.rdis.proofs.TakenLaws.{levels-counted, counts-ext}
 use Rattle.rdis.proofs.PackingLaws.{width-holds, counters-back, plan-packs}
 use Rattle.rdis.proofs.CountLaws.{faults-are-cells}
-use Rattle.rdis.proofs.FaultLaws.{levels-by-faults, levels-by-kind}
+use Rattle.rdis.proofs.FaultLaws.{levels-by-kind}
 use Rattle.grid_promises.specs.Calls.{used, rowsOf, columnsOf}
 use Rattle.grid_promises.specs.Refusals.{InRange, PlanLengths}
 use Rattle.grid_promises.specs.Refusals.{PlanRefused, rangePlan, lengthPlan, pastPlan, chainPlan}
-use Rattle.grid_promises.specs.Demands.{WellFormed, HeldLines}
+use Rattle.grid_promises.specs.Demands.{BoundsLevels, WellFormed, HeldLines}
 use Rattle.grid_promises.specs.Promises.{PlanExactly, Plan}
+use Rattle.grid_promises.specs.Theorems.{BoundFollows}
 use Rattle.grid_promises.specs.declared.Answer.{Answer}
 use Rattle.grid_promises.proofs.RefusalLaws.{in-range, plan-sized, within, past-iff, spare-iff, held-is, plan-7, plan-lowest}
+
+pub bound-follows : BoundFollows
+bound-follows b a c l = omega (arith, c .sum, l .wrong, l .right)
 
 -- an outcome that does not refuse is made of what it says
 is-masked : (o : Outcome) → (o ≡ unmaskable → ⊥) → o ≡ masked (used o) (rowsOf o) (columnsOf o)
@@ -79,6 +83,11 @@ module _ (b : Block) (k : ℕ) (counters : List ℕ) (a : Answer) (counters′ :
     packs : Packs (width k) (b .rows + b .columns) (inOrder (b .rows) (b .columns) (rowsOf (plan b k)) (columnsOf (plan b k))) counters′
     packs = subst (Packs (width k) (b .rows + b .columns) _) (sym (e .countersAre z)) (plan-packs b k _ _ _ masks (width k) fits)
 
+    bounds : BoundsLevels a
+    bounds =
+        let (x, y) = levels-by-kind b k _ _ _ masks in
+        record { wrong = rw (e .levelsAre z, e .kindsAre z .wrong) x; right = rw (e .levelsAre z, e .kindsAre z .right) y }
+
     formed : WellFormed (width k) (b .rows + b .columns) counters′
     formed = record { size = packs .size; bytes = packs .bytes; clear = iff-false _ (spare-iff (width k) (b .rows + b .columns) counters′) (ap not (packs .spare)) }
 
@@ -102,10 +111,9 @@ module _ (b : Block) (k : ℕ) (counters : List ℕ) (a : Answer) (counters′ :
       unmaskable = seven;
       deepest = λ z. subst (LevelsUsed b k) (sym (e .levelsAre z)) (levels-by-chain b k _ _ _ (masks z));
       everyFault = λ z. e .faultsAre z ∙ faults-are-cells (b .rows) (b .columns) (b .mask) (plan-mask b k (length counters) (none z));
-      fewLevels = λ z. rw (e .levelsAre z, e .faultsAre z) (levels-by-faults b k _ _ _ (masks z));
+      fewLevels = λ z. bound-follows b a (e .kindsAre z) (bounds z);
       kinds = e .kindsAre;
-      fewWrong = λ z. rw (e .levelsAre z, e .kindsAre z .wrong) (levels-by-kind b k _ _ _ (masks z) .0);
-      fewRight = λ z. rw (e .levelsAre z, e .kindsAre z .right) (levels-by-kind b k _ _ _ (masks z) .1);
+      fewOfEach = bounds;
       wellFormed = formed;
       counted = counts;
     };

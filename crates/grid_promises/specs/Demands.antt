@@ -49,6 +49,11 @@ pub record CountsKinds (b : Block) (answer : Answer) : Type 0 where
   pub right : answer .right ≡ faultyCells b false
   pub sum : answer .faults ≡ answer .wrong + answer .right
 
+-- L is at most the wrong cells, and at most the right ones and one more
+pub record BoundsLevels (answer : Answer) : Type 0 where
+  pub wrong : answer .levels ≤ answer .wrong
+  pub right : answer .levels ≤ answer .right + 1
+
 -- ---- a plan
 
 -- the bytes of n counters of w bits: so many as they need, and no spare bit is 1
@@ -74,10 +79,9 @@ pub record PlanDemands (b : Block) (k : ℕ) (counters : List ℕ) (answer : Ans
   -- F counts the stuck cells one by one, and L takes at least 2L - 1 of them
   pub everyFault : answer .number ≡ 0 → answer .faults ≡ stuckCells (b .rows) (b .columns) (b .mask)
   pub fewLevels : answer .number ≡ 0 → 2 * answer .levels ≤ answer .faults + 1
-  -- so are the wrong and the right ones, and L takes at least L of the wrong ones and L - 1 of the right ones
+  -- the wrong and the right ones are counted too, and L takes at least L of the wrong ones and L - 1 of the right ones
   pub kinds : answer .number ≡ 0 → CountsKinds b answer
-  pub fewWrong : answer .number ≡ 0 → answer .levels ≤ answer .wrong
-  pub fewRight : answer .number ≡ 0 → answer .levels ≤ answer .right + 1
+  pub fewOfEach : answer .number ≡ 0 → BoundsLevels answer
   -- the counters that the bytes hold say of every line how many levels took it
   pub wellFormed : answer .number ≡ 0 → WellFormed (width k) (b .rows + b .columns) counters′
   pub counted : answer .number ≡ 0 → (r c : ℕ → ℕ) → HeldLines (width k) (b .rows) (b .columns) counters′ r c → CountsLevels b r c
@@ -98,7 +102,7 @@ pub record StoreDemands (b : Block) (k : ℕ) (counters cells : List ℕ) (answe
   pub misread : ((x : ℕ) → x < 13 → StoreRefused b k counters (length cells) x → ⊥) → (answer .number ≡ 13) ↔ Misread b k counters
   -- L is the greatest counter
   pub deepest : answer .number ≡ 0 → Greatest (width k) (b .rows + b .columns) counters (answer .levels)
-  -- F counts the stuck cells one by one, and so are the wrong and the right ones
+  -- F counts the stuck cells one by one, and the wrong and the right ones are counted too
   pub everyFault : answer .number ≡ 0 → answer .faults ≡ stuckCells (b .rows) (b .columns) (b .mask)
   pub kinds : answer .number ≡ 0 → CountsKinds b answer
   -- a word a row, with no bit past the last column

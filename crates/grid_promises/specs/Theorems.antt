@@ -1,5 +1,5 @@
 -- What is proved of the promises themselves, of whatever code keeps them. Assumes nothing.
-use Prim.Native.Nat.{ℕ, _<_}
+use Prim.Native.Nat.{ℕ, _+_, _*_, _<_, _≤_}
 use mathlib.Core.Path.{_≡_}
 use mathlib.Core.Bool.{true}
 use mathlib.Core.List.{List}
@@ -8,7 +8,7 @@ use lib.ListN.{length}
 use Rattle.rdis.specs.Block.{Block, bit, stuck}
 use Rattle.rdis.specs.Theorems.{withValues}
 use Rattle.grid_promises.specs.Refusals.{Past}
-use Rattle.grid_promises.specs.Demands.{ReadDemands, PlanDemands, StoreDemands}
+use Rattle.grid_promises.specs.Demands.{CountsKinds, BoundsLevels, ReadDemands, PlanDemands, StoreDemands}
 use Rattle.grid_promises.specs.Promises.{ReadExactly, Read, PlanExactly, Plan, StoreExactly, Store}
 use Rattle.grid_promises.specs.declared.ReadAnswer.{ReadAnswer}
 use Rattle.grid_promises.specs.declared.Answer.{Answer}
@@ -46,6 +46,11 @@ abbrev pub OneStoreByDemands : Type 0
 OneStoreByDemands =
     (b : Block) (k : ℕ) (counters cells : List ℕ) (a a′ : Answer) (x x′ : List ℕ)
     → StoreDemands b k counters cells a x → StoreDemands b k counters cells a′ x′ → (a ≡ a′) × (x ≡ x′)
+
+-- ---- what is said of the two kinds of stuck cells is enough for demand 3's bound
+
+abbrev pub BoundFollows : Type 0
+BoundFollows = (b : Block) (a : Answer) → CountsKinds b a → BoundsLevels a → 2 * a .levels ≤ a .faults + 1
 
 -- ---- a plan, then a store, then a read
 
