@@ -5,8 +5,7 @@ use native.Mathlib.Omega.{arith}
 use borrow.Author.Needs.{needs}
 use lib.Dec.{eqb}
 use lib.ListN.{length, getD}
-use Rattle.bits.proofs.TestLaws.{num-lt}
-use Rattle.grid.proofs.CountLaws.{From, from-end, from-few, from-more, from-start}
+use Rattle.grid.proofs.CountLaws.{From, mark-few, from-end, from-few, from-more, from-start}
 use Rattle.grid.proofs.answers.stuck_rows.Statement.{statement}
 use Rattle.grid.proofs.answers.stuck_rows.Tie as tie
 
@@ -43,7 +42,7 @@ stuck-rows-spec =
     let s = c .before .before .before .before .before in
     let l = c .before .before .before .loop in
     let stuck = holds (s .args .mask .now) in
-    omega (arith, from-few _ stuck (l .i) (l .rows) (s .pre) (omega arith) (l .inv .1), c .mark-if .ensures, num-lt (stuck (l .i - 1))))
+    omega (arith, from-few _ stuck (l .i) (l .rows) (s .pre) (omega arith) (l .inv .1), mark-few (stuck (l .i - 1)) (c .mark-if .result) (c .mark-if .ensures)))
     -- loop-less
     (λ c. omega arith)
     -- loop-again
