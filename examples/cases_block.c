@@ -14,8 +14,7 @@ struct block new_block(void)
     return b;
 }
 
-/* A picture has a row after a row, column 0 first: where it has one of these signs, the words get a bit. The answer is how many rows it has. */
-static size_t put_picture(const char *picture, const char *signs, uint64_t *words)
+size_t put_picture(const char *picture, const char *signs, uint64_t *words)
 {
     size_t row = 0, column = 0;
     memset(words, 0, 8);
@@ -41,14 +40,19 @@ ernavluq_grid_answer store_block(size_t rows, size_t columns, size_t k, struct b
         b->cells, lengths[CELLS]);
 }
 
-size_t read_block(size_t rows, size_t columns, size_t k, struct block *b, const size_t *lengths)
+ernavluq_grid_read_answer read_block(size_t rows, size_t columns, size_t k, struct block *b, const size_t *lengths)
 {
-    return ernavluq_grid_read(rows, columns, k, b->cells, lengths[CELLS], b->counters, lengths[COUNTERS], b->out, lengths[OUT]).number;
+    return ernavluq_grid_read(rows, columns, k, b->cells, lengths[CELLS], b->counters, lengths[COUNTERS], b->out, lengths[OUT]);
 }
 
 int answers(ernavluq_grid_answer a, size_t number, size_t levels, size_t wrong, size_t right)
 {
-    return a.number == number && a.levels == levels && a.faults == wrong + right && a.wrong == wrong && a.right == right;
+    return a.number == number && a.levels == levels && a.faults == wrong + right && a.wrong == wrong && a.right == right && a.index == 0;
+}
+
+int shows(ernavluq_grid_read_answer a, size_t number)
+{
+    return a.number == number && a.index == 0;
 }
 
 int same(const struct block *now, const struct block *want)
@@ -76,7 +80,7 @@ static int stored(size_t rows, size_t columns, size_t k, struct block *now, cons
     if (number != 0)
         return good;
     memcpy(want.out, want.data, rows * sizeof *want.out);
-    return good && read_block(rows, columns, k, now, lengths) == 0 && same(now, &want);
+    return good && shows(read_block(rows, columns, k, now, lengths), 0) && same(now, &want);
 }
 
 static const struct block_plan {
@@ -147,11 +151,8 @@ static const struct block_store {
     {"G3  store, other data in a stuck cell", 2, 3, "10 00", "10 .1", "96", 13, 0, 0, 0, ""},
     {"G3  store, only the last cell would read wrong", 2, 3, "00 00", "10 .0", "96", 13, 0, 0, 0, ""},
     {"G6  store, row 1 has 2 in place of 3", 3, 3, "000 000 000", "10. .10 ..1", "5A 0B", 13, 0, 0, 0, ""},
-    {"G10 store, K = 2, a row's counter is 3", 1, 2, "1", ".", "03", 4, 0, 0, 0, ""},
-    {"G10 store, K = 2, a column's counter is 3", 1, 2, "1", ".", "0C", 4, 0, 0, 0, ""},
     {"G10 store, K = 2, both counters are 2", 1, 2, "1", ".", "0A", 0, 2, 0, 0, "1"},
     {"G10 store, K = 3, both counters are 3", 1, 3, "1", ".", "0F", 0, 3, 0, 0, "0"},
-    {"    store, a counter above K before a stuck cell read wrong", 1, 2, "1", "0", "03", 4, 0, 0, 0, ""},
     {"    store, the first spare bit, K = 1", 2, 1, "00 00", ".. ..", "10", 3, 0, 0, 0, ""},
     {"    store, the last bit of the counters, K = 1", 2, 1, "00 00", ".. ..", "08", 0, 1, 0, 0, "00 00"},
     {"    store, the first spare bit, K = 2", 1, 2, "0", ".", "10", 3, 0, 0, 0, ""},
@@ -193,8 +194,6 @@ static const struct block_read {
 } block_reads[] = {
     {"G3* read", 2, 3, "10 11", "96", 0, "00 00"},
     {"G6* read", 3, 3, "100 110 111", "5E 0B", 0, "000 000 000"},
-    {"G10 K = 2, a row's counter is 3", 1, 2, "1", "03", 4, ""},
-    {"G10 K = 2, a column's counter is 3", 1, 2, "1", "0C", 4, ""},
     {"G10 K = 2, both counters are 2", 1, 2, "1", "0A", 0, "1"},
     {"G10 K = 3, both counters are 3", 1, 3, "1", "0F", 0, "0"},
     {"    counters 1 and 0", 1, 1, "1", "01", 0, "1"},
@@ -217,7 +216,7 @@ static void try_block_read(const struct block_read *c)
     want = now;
     if (c->number == 0)
         put_picture(c->shown, "1", want.out);
-    report(c->name, read_block(rows, c->columns, c->k, &now, lengths) == c->number && same(&now, &want));
+    report(c->name, shows(read_block(rows, c->columns, c->k, &now, lengths), c->number) && same(&now, &want));
 }
 
 void try_blocks(void)
@@ -229,5 +228,6 @@ void try_blocks(void)
     try_loop();
     for (size_t i = 0; i < sizeof block_reads / sizeof *block_reads; i++)
         try_block_read(&block_reads[i]);
+    try_block_index();
     try_block_edges();
 }

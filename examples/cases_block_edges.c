@@ -12,17 +12,17 @@ static void try_block_sizes(
     int good;
     if (planned == 0)
         memset(want.counters, 0, lengths[COUNTERS]);
-    good = plan_block(rows, columns, k, &now, lengths).number == planned && same(&now, &want);
+    good = answers(plan_block(rows, columns, k, &now, lengths), planned, 0, 0, 0) && same(&now, &want);
     memset(now.counters, 0, lengths[COUNTERS]);
     want = now;
     if (written == 0)
         memset(want.cells, 0, lengths[CELLS] * sizeof *want.cells);
-    good = good && store_block(rows, columns, k, &now, lengths).number == written && same(&now, &want);
+    good = good && answers(store_block(rows, columns, k, &now, lengths), written, 0, 0, 0) && same(&now, &want);
     memset(now.cells, 0, lengths[CELLS] * sizeof *now.cells);
     want = now;
     if (shown == 0)
         memset(want.out, 0, lengths[OUT] * sizeof *want.out);
-    report(name, good && read_block(rows, columns, k, &now, lengths) == shown && same(&now, &want));
+    report(name, good && shows(read_block(rows, columns, k, &now, lengths), shown) && same(&now, &want));
 }
 
 static void try_numbers(void)
@@ -78,7 +78,7 @@ static void try_whole(void)
     memset(want.cells, 0, 64 * 8);
     report("    64 columns, stored", answers(store_block(64, 64, 1, &now, lengths), 0, 1, 4096, 0) && same(&now, &want));
     memset(want.out, 0xFF, 64 * 8);
-    report("    64 columns, read back", read_block(64, 64, 1, &now, lengths) == 0 && same(&now, &want));
+    report("    64 columns, read back", shows(read_block(64, 64, 1, &now, lengths), 0) && same(&now, &want));
     now.counters[15] = want.counters[15] = 0x7F;
     report("    64 columns, the last counter 0", answers(store_block(64, 64, 1, &now, lengths), 13, 0, 0, 0) && same(&now, &want));
 }

@@ -1,4 +1,4 @@
-/* Read this first: one row and one block of memory with stuck cells are written and read back, and two calls are refused.
+/* Read this first: one row and one block of memory with stuck cells are written and read back, and three calls are refused.
  *
  *     rt staticlib ernavluq
  *     cc -std=c99 -Iinclude examples/repair.c target/staticlib/libernavluq.a -o target/repair && target/repair
@@ -71,7 +71,7 @@ static int repair_a_block(void)
     uint64_t cells[ROWS] = {0}, before[ROWS], out[ROWS];
     uint8_t counters[ERNAVLUQ_COUNTER_BYTES(ROWS, COLUMNS, K)] = {0};
     ernavluq_grid_answer refused, planned, stored, misread;
-    ernavluq_grid_read_answer read;
+    ernavluq_grid_read_answer read, bad;
     int untouched;
 
     refused = ernavluq_grid_plan(ROWS, COLUMNS, K - 1, data, ROWS, mask, ROWS, values, ROWS, counters, sizeof counters);
@@ -91,6 +91,11 @@ static int repair_a_block(void)
     printf("block, read:   %s\n", in_words(read.number));
     print_words("  the data:   ", out, ROWS);
 
+    /* With the K of another plan: the counters of three levels do not fit K = 2, and the answer says which is the first that is above it. */
+    bad = ernavluq_grid_read(ROWS, COLUMNS, K - 1, cells, ROWS, counters, sizeof counters, out, ROWS);
+    printf("read, K = 2:   refused with number %zu: counter %zu is above K, that of %s %zu\n", bad.number, bad.index, bad.index < ROWS ? "row" : "column",
+        bad.index < ROWS ? bad.index : bad.index - ROWS);
+
     /* Other data, for which cell 0 of row 0 is stuck at the right bit: these counters would invert it, so a plan has to make new ones. */
     memcpy(before, cells, sizeof before);
     misread = ernavluq_grid_store(ROWS, COLUMNS, K, other, ROWS, mask, ROWS, values, ROWS, counters, sizeof counters, cells, ROWS);
@@ -99,7 +104,8 @@ static int repair_a_block(void)
     printf("  the cells:   %s\n", untouched ? "as before" : "altered");
 
     return refused.number == ERNAVLUQ_UNMASKABLE && stored.number == ERNAVLUQ_ACCEPTED
-        && read.number == ERNAVLUQ_ACCEPTED && memcmp(out, data, sizeof data) == 0 && misread.number == ERNAVLUQ_MISREAD && untouched;
+        && read.number == ERNAVLUQ_ACCEPTED && memcmp(out, data, sizeof data) == 0 && misread.number == ERNAVLUQ_MISREAD && untouched
+        && bad.number == ERNAVLUQ_MALFORMED && bad.index == 1;
 }
 
 int main(void)

@@ -4,8 +4,8 @@
  * Header and archive must be of one release: a release may add fields to an answer, and the linker does not notice an object with fewer.
  *
  * What may be passed: everything. A buffer may have any length, NULL with length 0 included, and a number may be any number. Every call ends. It does its
- * work and answers number 0, or it answers the number of one refusal; then every count in the answer is 0 and no buffer is altered. If several refusals
- * apply, the answer is the lowest. Each call is proved to do what is said here, for all arguments.
+ * work and answers number 0, or it answers the number of one refusal; then every count in the answer is 0 and no buffer is altered. (An index is no count.)
+ * If several refusals apply, the answer is the lowest. Each call is proved to do what is said here, for all arguments.
  *
  * What the caller owes: after each pointer comes its length in elements, bytes or words, and so many elements stand there. Words are aligned as the machine
  * aligns a uint64_t. A buffer that is written, one whose pointer is not const, overlaps no other buffer of the call, and no other thread touches it
@@ -87,7 +87,10 @@ ernavluq_pointer_write_answer ernavluq_pointer_write(
  *
  * Data, mask, values, cells and output have one word a row: bit j is column j. A mask bit of 1 says that the cell is stuck; the value bit says at what,
  * and is ignored where the cell is sound, except past the last column, where every bit that is read has to be 0. K is not stored with the counters: a
- * store and a read are given the K of the plan. */
+ * store and a read are given the K of the plan.
+ *
+ * A store or a read that finds a counter above K answers refusal 4 and says which: the index counts the counters from 0 as they stand in the bytes, the
+ * rows first and then the columns. An index below rows is that row, and any other is column index - rows. Of several it is the lowest. */
 
 #define ERNAVLUQ_MAX_ROWS 64
 #define ERNAVLUQ_MAX_COLUMNS 64
@@ -97,6 +100,7 @@ ernavluq_pointer_write_answer ernavluq_pointer_write(
 
 typedef struct {
     size_t number; /* 0, or the refusal */
+    size_t index;  /* with refusal 4 the index of the first counter above K, else 0 */
 } ernavluq_grid_read_answer;
 
 typedef struct {
@@ -105,6 +109,7 @@ typedef struct {
     size_t faults; /* the stuck cells of the block: the wrong and the right ones together */
     size_t wrong;  /* those of them that are stuck at the other bit than their data bit */
     size_t right;  /* those that are stuck at their data bit */
+    size_t index;  /* with refusal 4 the index of the first counter above K, else 0: so of a plan always 0 */
 } ernavluq_grid_answer;
 
 /* Plans a write of data to a block, and is lent no cells. Takes its rows and columns (1 to 64 each), K (1 to 3), the data, which cells are stuck and at

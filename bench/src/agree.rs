@@ -1,4 +1,4 @@
-//! Whether archive, peer and second program agree: number, every count and every buffer, call by call.
+//! Whether archive, peer and second program agree: number, every count, the index and every buffer, call by call.
 
 use std::fmt::Debug;
 
@@ -13,7 +13,7 @@ use crate::input::Input;
 pub const CALLS_OF_A_KIND: usize = 50_000;
 
 /// The seed of the calls.
-const SEED: u64 = 2026;
+pub const SEED: u64 = 2026;
 
 /// How often each number from 0 to 13 came up, for each kind.
 pub type Tally = [[usize; 14]; 5];

@@ -2,84 +2,73 @@
 
 use std::fmt::Debug;
 
-/// An answer of some kind of call: a number, and the counts of that kind.
+/// An answer of some kind of call: a number, and the figures of that kind.
 pub trait Answer: Copy + Debug + PartialEq {
     /// The number: 0, or the refusal.
     fn number(self) -> usize;
 
-    /// The answer of a call that is refused: every count is 0.
+    /// The answer of a call that is refused: every figure is 0. With number 4 a grid call then puts its index in.
     fn refused(number: usize) -> Self;
 }
 
-/// What a pointer read and a grid read answer: the number alone.
+/// What a pointer read answers: the number alone.
 #[repr(C)]
-#[derive(Clone, Copy, Debug, PartialEq, Eq)]
-pub struct ReadAnswer {
+#[derive(Clone, Copy, Debug, Default, PartialEq, Eq)]
+pub struct PointerReadAnswer {
     pub number: usize,
 }
 
 /// What a pointer write answers: the number, the entries active afterwards, and how many of them are new.
 #[repr(C)]
-#[derive(Clone, Copy, Debug, PartialEq, Eq)]
+#[derive(Clone, Copy, Debug, Default, PartialEq, Eq)]
 pub struct PointerWriteAnswer {
     pub number: usize,
     pub active: usize,
     pub new_entries: usize,
 }
 
-/// What a grid plan and a grid store answer: the number, L, all stuck cells F, and apart the wrong and the right ones.
+/// What a grid read answers: the number, and with number 4 the index of the first counter above K.
 #[repr(C)]
-#[derive(Clone, Copy, Debug, PartialEq, Eq)]
+#[derive(Clone, Copy, Debug, Default, PartialEq, Eq)]
+pub struct GridReadAnswer {
+    pub number: usize,
+    pub index: usize,
+}
+
+/// What a grid plan and a grid store answer: the number, L, all stuck cells F, apart the wrong and the right ones, and
+/// with number 4 the index of the first counter above K.
+#[repr(C)]
+#[derive(Clone, Copy, Debug, Default, PartialEq, Eq)]
 pub struct GridAnswer {
     pub number: usize,
     pub levels: usize,
     pub faults: usize,
     pub wrong: usize,
     pub right: usize,
+    pub index: usize,
 }
 
-impl Answer for ReadAnswer {
-    #[inline(always)]
-    fn number(self) -> usize {
-        self.number
-    }
+/// Makes each of these structs an answer, so that what a refused one is stands once.
+macro_rules! answers {
+    ($($answer:ty),*) => {$(
+        impl Answer for $answer {
+            #[inline(always)]
+            fn number(self) -> usize {
+                self.number
+            }
 
-    #[inline(always)]
-    fn refused(number: usize) -> ReadAnswer {
-        ReadAnswer { number }
-    }
-}
-
-impl Answer for PointerWriteAnswer {
-    #[inline(always)]
-    fn number(self) -> usize {
-        self.number
-    }
-
-    #[inline(always)]
-    fn refused(number: usize) -> PointerWriteAnswer {
-        PointerWriteAnswer {
-            number,
-            active: 0,
-            new_entries: 0,
+            #[inline(always)]
+            #[allow(clippy::needless_update)] // a pointer read has nothing but the number
+            fn refused(number: usize) -> Self {
+                Self { number, ..Self::default() }
+            }
         }
-    }
+    )*};
 }
 
-impl Answer for GridAnswer {
-    #[inline(always)]
-    fn number(self) -> usize {
-        self.number
-    }
-
-    #[inline(always)]
-    fn refused(number: usize) -> GridAnswer {
-        GridAnswer {
-            number,
-            levels: 0,
-            faults: 0,
-            wrong: 0,
-            right: 0,
-        }
-    }
-}
+answers!(
+    PointerReadAnswer,
+    PointerWriteAnswer,
+    GridReadAnswer,
+    GridAnswer
+);

@@ -1,6 +1,6 @@
 //! The archive's five functions, as `include/ernavluq.h` declares them, over slices.
 
-use crate::answers::{GridAnswer, PointerWriteAnswer, ReadAnswer};
+use crate::answers::{GridAnswer, GridReadAnswer, PointerReadAnswer, PointerWriteAnswer};
 
 extern "C" {
     fn ernavluq_pointer_read(
@@ -11,7 +11,7 @@ extern "C" {
         metadata_length: usize,
         out: *mut u8,
         out_length: usize,
-    ) -> ReadAnswer;
+    ) -> PointerReadAnswer;
     fn ernavluq_pointer_write(
         n: usize,
         data: *const u8,
@@ -35,7 +35,7 @@ extern "C" {
         counters_length: usize,
         out: *mut u64,
         out_length: usize,
-    ) -> ReadAnswer;
+    ) -> GridReadAnswer;
     fn ernavluq_grid_plan(
         rows: usize,
         columns: usize,
@@ -68,7 +68,7 @@ extern "C" {
 
 /// The archive's pointer read.
 #[inline(always)]
-pub fn pointer_read(n: usize, cells: &[u8], metadata: &[u8], out: &mut [u8]) -> ReadAnswer {
+pub fn pointer_read(n: usize, cells: &[u8], metadata: &[u8], out: &mut [u8]) -> PointerReadAnswer {
     // SAFETY: each pointer and length is one slice's, and the borrows keep the changed one apart from the others.
     unsafe {
         ernavluq_pointer_read(
@@ -118,7 +118,7 @@ pub fn grid_read(
     cells: &[u64],
     counters: &[u8],
     out: &mut [u64],
-) -> ReadAnswer {
+) -> GridReadAnswer {
     // SAFETY: as for the pointer read; a slice of words is aligned.
     unsafe {
         ernavluq_grid_read(

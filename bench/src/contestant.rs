@@ -2,7 +2,7 @@
 
 use second::call::{GridPlan, GridRead, GridStore, PointerRead, PointerWrite};
 
-use crate::answers::{GridAnswer, PointerWriteAnswer, ReadAnswer};
+use crate::answers::{GridAnswer, GridReadAnswer, PointerReadAnswer, PointerWriteAnswer};
 use crate::{archive, peer};
 
 /// A number of a call as the machine's own word; they have the same 64 bits.
@@ -20,15 +20,16 @@ fn of_second(answer: second::grid::Answer) -> GridAnswer {
         faults: answer.stuck,
         wrong: answer.wrong,
         right: answer.right,
+        index: answer.index,
     }
 }
 
 /// Somebody who makes the five calls.
 pub trait Contestant {
     fn pointer_write(call: &mut PointerWrite) -> PointerWriteAnswer;
-    fn pointer_read(call: &mut PointerRead) -> ReadAnswer;
+    fn pointer_read(call: &mut PointerRead) -> PointerReadAnswer;
     fn grid_plan(call: &mut GridPlan) -> GridAnswer;
-    fn grid_read(call: &mut GridRead) -> ReadAnswer;
+    fn grid_read(call: &mut GridRead) -> GridReadAnswer;
     fn grid_store(call: &mut GridStore) -> GridAnswer;
 }
 
@@ -56,7 +57,7 @@ impl Contestant for Archive {
     }
 
     #[inline(always)]
-    fn pointer_read(c: &mut PointerRead) -> ReadAnswer {
+    fn pointer_read(c: &mut PointerRead) -> PointerReadAnswer {
         archive::pointer_read(word(c.n), &c.cells, &c.metadata, &mut c.output)
     }
 
@@ -67,7 +68,7 @@ impl Contestant for Archive {
     }
 
     #[inline(always)]
-    fn grid_read(c: &mut GridRead) -> ReadAnswer {
+    fn grid_read(c: &mut GridRead) -> GridReadAnswer {
         let numbers = c.numbers.map(word);
         archive::grid_read(numbers, &c.cells, &c.counters, &mut c.output)
     }
@@ -101,9 +102,9 @@ impl Contestant for Peer {
     }
 
     #[inline(always)]
-    fn pointer_read(c: &mut PointerRead) -> ReadAnswer {
+    fn pointer_read(c: &mut PointerRead) -> PointerReadAnswer {
         let number = peer::pointer::read(word(c.n), &c.cells, &c.metadata, &mut c.output);
-        ReadAnswer { number }
+        PointerReadAnswer { number }
     }
 
     #[inline(always)]
@@ -121,10 +122,9 @@ impl Contestant for Peer {
     }
 
     #[inline(always)]
-    fn grid_read(c: &mut GridRead) -> ReadAnswer {
+    fn grid_read(c: &mut GridRead) -> GridReadAnswer {
         let [rows, columns, k] = c.numbers.map(word);
-        let number = peer::grid::read(rows, columns, k, &c.cells, &c.counters, &mut c.output);
-        ReadAnswer { number }
+        peer::grid::read(rows, columns, k, &c.cells, &c.counters, &mut c.output)
     }
 
     #[inline(always)]
@@ -162,9 +162,9 @@ impl Contestant for Second {
     }
 
     #[inline(always)]
-    fn pointer_read(c: &mut PointerRead) -> ReadAnswer {
+    fn pointer_read(c: &mut PointerRead) -> PointerReadAnswer {
         let number = second::pointer::read(c.n, &c.cells, &c.metadata, &mut c.output);
-        ReadAnswer {
+        PointerReadAnswer {
             number: usize::from(number),
         }
     }
@@ -176,10 +176,11 @@ impl Contestant for Second {
     }
 
     #[inline(always)]
-    fn grid_read(c: &mut GridRead) -> ReadAnswer {
-        let number = second::grid::read(c.numbers, &c.cells, &c.counters, &mut c.output);
-        ReadAnswer {
-            number: usize::from(number),
+    fn grid_read(c: &mut GridRead) -> GridReadAnswer {
+        let answer = second::grid::read(c.numbers, &c.cells, &c.counters, &mut c.output);
+        GridReadAnswer {
+            number: usize::from(answer.number),
+            index: answer.index,
         }
     }
 

@@ -2,7 +2,7 @@
 
 use second::call::{GridPlan, GridRead, GridStore, PointerRead, PointerWrite};
 
-use crate::answers::{Answer, GridAnswer, PointerWriteAnswer, ReadAnswer};
+use crate::answers::{Answer, GridAnswer, GridReadAnswer, PointerReadAnswer, PointerWriteAnswer};
 use crate::contestant::Contestant;
 
 /// The arguments of one kind of call.
@@ -32,10 +32,10 @@ impl Input for PointerWrite {
 }
 
 impl Input for PointerRead {
-    type Answer = ReadAnswer;
+    type Answer = PointerReadAnswer;
 
     #[inline(always)]
-    fn made_by<C: Contestant>(&mut self) -> ReadAnswer {
+    fn made_by<C: Contestant>(&mut self) -> PointerReadAnswer {
         C::pointer_read(self)
     }
 
@@ -58,10 +58,10 @@ impl Input for GridPlan {
 }
 
 impl Input for GridRead {
-    type Answer = ReadAnswer;
+    type Answer = GridReadAnswer;
 
     #[inline(always)]
-    fn made_by<C: Contestant>(&mut self) -> ReadAnswer {
+    fn made_by<C: Contestant>(&mut self) -> GridReadAnswer {
         C::grid_read(self)
     }
 

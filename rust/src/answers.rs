@@ -34,6 +34,8 @@ pub struct GridAnswer {
     pub wrong: usize,
     /// Those that are stuck at their data bit.
     pub right: usize,
+    /// With refusal 4 the index of the first counter above K, else 0: so of a plan always 0.
+    pub index: usize,
 }
 
 /// What a read of a grid block answers.
@@ -42,6 +44,8 @@ pub struct GridAnswer {
 pub struct GridReadAnswer {
     /// 0, or the number of the refusal.
     pub number: usize,
+    /// With refusal 4 the index of the first counter above K, else 0.
+    pub index: usize,
 }
 
 /// The answer of any call.

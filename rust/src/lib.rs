@@ -227,8 +227,9 @@ pub fn grid_store(
 ///
 /// ```
 /// let mut out = [0];
-/// let refusal = ernavluq::grid_read(1, 1, 2, &[0], &[3], &mut out).unwrap_err();
-/// assert_eq!(refusal.to_string(), "refusal 4: the metadata is not well formed, or a counter is above K");
+/// let refusal = ernavluq::grid_read(1, 1, 2, &[0], &[0x0C], &mut out).unwrap_err();
+/// assert_eq!(refusal.to_string(), "refusal 4: counter 1 is above K"); // after that of the one row: column 0
+/// assert_eq!(refusal.bad_counter(), Some(1));
 /// ```
 pub fn grid_read(
     rows: usize,

@@ -23,7 +23,7 @@ pub const MISREAD: usize = 13;
 /// A call that was refused: the lowest refusal that applies. No buffer was altered.
 #[derive(Clone, Copy, Debug, PartialEq, Eq)]
 pub struct Refusal {
-    /// The whole answer; every count in it is 0.
+    /// The whole answer; every count in it is 0, and with any number but 4 the index too.
     pub answer: Answer,
 }
 
@@ -32,15 +32,28 @@ impl Refusal {
     pub fn number(&self) -> usize {
         self.answer.number()
     }
+
+    /// The index of the first counter above K, where a store or a read of a block was refused with [`MALFORMED`]. The rows' counters are counted first, from
+    /// 0, and then the columns': of a block of `rows` rows an index below `rows` is that row, and any other is column `index - rows`.
+    pub fn bad_counter(&self) -> Option<usize> {
+        match self.answer {
+            Answer::GridStore(answer) if answer.number == MALFORMED => Some(answer.index),
+            Answer::GridRead(answer) if answer.number == MALFORMED => Some(answer.index),
+            _ => None,
+        }
+    }
 }
 
 impl fmt::Display for Refusal {
     fn fmt(&self, f: &mut fmt::Formatter<'_>) -> fmt::Result {
+        if let Some(index) = self.bad_counter() {
+            return write!(f, "refusal {MALFORMED}: counter {index} is above K");
+        }
         let words = match self.number() {
             OUT_OF_RANGE => "n, the rows, the columns or K lie outside their range",
             WRONG_LENGTH => "a buffer is not exactly as long as it should be",
             BIT_PAST_END => "a word has a bit past the last column, or a spare bit is 1",
-            MALFORMED => "the metadata is not well formed, or a counter is above K",
+            MALFORMED => "the metadata is not well formed",
             SAME_POINTER => "two active entries hold the same pointer",
             NO_ENTRY_LEFT => "the row has no entry left",
             UNMASKABLE => "the faults of the block cannot be masked for this data",

@@ -143,7 +143,10 @@ fn write_block(
         );
         assert_eq!(
             grid_read(n, n, k, &cells, &counters, &mut out),
-            Ok(GridReadAnswer { number: 0 })
+            Ok(GridReadAnswer {
+                number: 0,
+                index: 0
+            })
         );
         assert_eq!(out, data);
     } else {
@@ -160,6 +163,7 @@ fn accepted(levels: usize, wrong: usize, right: usize) -> GridAnswer {
         faults: wrong + right,
         wrong,
         right,
+        index: 0,
     }
 }
 
@@ -171,6 +175,7 @@ fn refused(number: usize) -> GridAnswer {
         faults: 0,
         wrong: 0,
         right: 0,
+        index: 0,
     }
 }
 
@@ -190,10 +195,7 @@ fn block(
 
 fn block_number(k: usize, mask: &[u64], values: &[u64]) -> usize {
     let refusal = write_block(k, mask, values).0.unwrap_err();
-    assert_eq!(
-        refusal.answer,
-        Answer::GridPlan(refused(refusal.number()))
-    );
+    assert_eq!(refusal.answer, Answer::GridPlan(refused(refusal.number())));
     refusal.number()
 }
 
@@ -275,10 +277,51 @@ fn other_counters() {
         );
     }
     let mut cells = [9];
-    for (counters, number) in [(0x10, BIT_PAST_END), (0x0C, MALFORMED)] {
-        let refusal = grid_store(1, 1, 2, &[0], &[0], &[0], &[counters], &mut cells).unwrap_err();
-        assert_eq!((refusal.number(), cells), (number, [9]));
-    }
+    let refusal = grid_store(1, 1, 2, &[0], &[0], &[0], &[0x10], &mut cells).unwrap_err();
+    assert_eq!((refusal.number(), cells), (BIT_PAST_END, [9]));
+}
+
+/// A read and a store at K = 2 by these counters: what a refusal of both says of the bad one.
+fn named(rows: usize, columns: usize, counters: &[u8]) -> (usize, Option<usize>) {
+    let (zeros, mut out, mut cells) = (vec![0; rows], vec![9; rows], vec![9; rows]);
+    let read = grid_read(rows, columns, 2, &zeros, counters, &mut out).unwrap_err();
+    let stored = grid_store(
+        rows, columns, 2, &zeros, &zeros, &zeros, counters, &mut cells,
+    )
+    .unwrap_err();
+    assert_eq!((out, cells), (vec![9; rows], vec![9; rows]));
+    assert_eq!(
+        (read.number(), read.bad_counter(), read.to_string()),
+        (stored.number(), stored.bad_counter(), stored.to_string())
+    );
+    let Answer::GridStore(answer) = stored.answer else {
+        panic!("a store answers as a store");
+    };
+    let index = stored.bad_counter().unwrap_or(0);
+    let number = stored.number();
+    assert_eq!(
+        answer,
+        GridAnswer {
+            index,
+            ..refused(number)
+        }
+    );
+    (number, stored.bad_counter())
+}
+
+#[test]
+fn g10_says_which_counter() {
+    assert_eq!(named(2, 2, &[0x57]), (MALFORMED, Some(0)));
+    assert_eq!(named(2, 2, &[0xC0]), (MALFORMED, Some(3)));
+    // Column 0 of three after two rows, row 2 of three, and row 1 though a column is bad too.
+    assert_eq!(named(2, 3, &[0x30, 0]), (MALFORMED, Some(2)));
+    assert_eq!(named(3, 2, &[0x30, 0]), (MALFORMED, Some(2)));
+    assert_eq!(named(2, 3, &[0x0C, 3]), (MALFORMED, Some(1)));
+    // A spare bit goes first, and names none.
+    assert_eq!(named(2, 3, &[0x0C, 4]), (BIT_PAST_END, None));
+    let mut last = [0; 32];
+    last[31] = 0xC0;
+    assert_eq!(named(64, 64, &last), (MALFORMED, Some(127)));
 }
 
 #[test]
@@ -291,7 +334,7 @@ fn a_refusal_speaks() {
     );
     for number in (1..=7).chain([13]) {
         let told = Refusal {
-            answer: Answer::GridRead(GridReadAnswer { number }),
+            answer: Answer::GridRead(GridReadAnswer { number, index: 0 }),
         }
         .to_string();
         assert!(

@@ -4,11 +4,13 @@ use crate::bits::bit_of_bytes;
 use crate::call::{Call, GridPlan, GridRead, GridStore, PointerRead, PointerWrite};
 use crate::{check_grid, grid, pointer};
 
-/// The outcome of a call: 0 or the refusal, and the counts of a write, a plan or a store.
+/// The outcome of a call: 0 or the refusal, the counts of a write, a plan or a store, and of a grid read or store the
+/// index of the first counter above K.
 #[derive(Clone, Debug, PartialEq, Eq)]
 pub struct Outcome {
     pub number: u8,
     pub counts: Vec<usize>,
+    pub index: Option<usize>,
 }
 
 /// Bytes as two hex digits each, or `-` if there are none.
@@ -61,6 +63,7 @@ fn make_pointer_write(call: &mut PointerWrite) -> Result<Outcome, String> {
     Ok(Outcome {
         number: answer.number,
         counts: vec![answer.active, answer.new],
+        index: None,
     })
 }
 
@@ -69,15 +72,13 @@ fn make_pointer_read(call: &mut PointerRead) -> Outcome {
     Outcome {
         number: pointer::read(call.n, &call.cells, &call.metadata, &mut call.output),
         counts: vec![],
+        index: None,
     }
 }
 
-/// The outcome of a grid plan or a grid store.
-fn grid_outcome(answer: grid::Answer) -> Outcome {
-    Outcome {
-        number: answer.number,
-        counts: vec![answer.levels, answer.stuck, answer.wrong, answer.right],
-    }
+/// The four counts of a grid plan or a grid store.
+fn grid_counts(answer: grid::Answer) -> Vec<usize> {
+    vec![answer.levels, answer.stuck, answer.wrong, answer.right]
 }
 
 /// Makes a grid plan and checks it.
@@ -90,7 +91,11 @@ fn make_grid_plan(call: &mut GridPlan) -> Result<Outcome, String> {
         &mut call.counters,
     );
     check_grid::check_plan(call, answer)?;
-    Ok(grid_outcome(answer))
+    Ok(Outcome {
+        number: answer.number,
+        counts: grid_counts(answer),
+        index: None,
+    })
 }
 
 /// Makes a grid store and checks it.
@@ -104,15 +109,22 @@ fn make_grid_store(call: &mut GridStore) -> Result<Outcome, String> {
         &mut call.cells,
     );
     check_grid::check_store(call, answer)?;
-    Ok(grid_outcome(answer))
+    Ok(Outcome {
+        number: answer.number,
+        counts: grid_counts(answer),
+        index: Some(answer.index),
+    })
 }
 
-/// Makes a grid read.
-fn make_grid_read(call: &mut GridRead) -> Outcome {
-    Outcome {
-        number: grid::read(call.numbers, &call.cells, &call.counters, &mut call.output),
+/// Makes a grid read and checks it.
+fn make_grid_read(call: &mut GridRead) -> Result<Outcome, String> {
+    let answer = grid::read(call.numbers, &call.cells, &call.counters, &mut call.output);
+    check_grid::check_read(call, answer)?;
+    Ok(Outcome {
+        number: answer.number,
         counts: vec![],
-    }
+        index: Some(answer.index),
+    })
 }
 
 /// Makes a call, which changes its buffers as documents 01 and 02 say; an error if a check fails.
@@ -121,16 +133,16 @@ pub fn make(call: &mut Call) -> Result<Outcome, String> {
         Call::PointerWrite(c) => make_pointer_write(c),
         Call::PointerRead(c) => Ok(make_pointer_read(c)),
         Call::GridPlan(c) => make_grid_plan(c),
-        Call::GridRead(c) => Ok(make_grid_read(c)),
+        Call::GridRead(c) => make_grid_read(c),
         Call::GridStore(c) => make_grid_store(c),
     }
 }
 
-/// The line of a call already made: the number, the counts, and the buffers that the call may change.
+/// The line of a call already made: the number, the counts, the index, and the buffers that the call may change.
 pub fn line(call: &Call, outcome: &Outcome) -> String {
     let mut parts = vec![outcome.number.to_string()];
-    for count in &outcome.counts {
-        parts.push(count.to_string());
+    for figure in outcome.counts.iter().chain(&outcome.index) {
+        parts.push(figure.to_string());
     }
     match call {
         Call::PointerWrite(c) => {

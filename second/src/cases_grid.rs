@@ -3,7 +3,7 @@
 
 use crate::cases_pointer::Case;
 use crate::grid_case::{block, plan, plan_over, read, store, store_over, stuck};
-use crate::{cases_counts, cases_edges, cases_foreign};
+use crate::{cases_counts, cases_edges, cases_foreign, cases_index, cases_no_index};
 
 /// G1 and G2: no stuck cell, and one.
 fn one_and_two() -> Vec<Case> {
@@ -79,7 +79,8 @@ fn six_to_eight() -> Vec<Case> {
     ]
 }
 
-/// All the grid cases: document 01's in its order, the edges, stores with foreign counters, and the fault counts.
+/// All the grid cases: document 01's in its order, the edges, stores with foreign counters, the fault counts, which
+/// counter is bad, and where none is named.
 pub fn all() -> Vec<Case> {
     [
         one_and_two(),
@@ -88,6 +89,8 @@ pub fn all() -> Vec<Case> {
         cases_edges::all(),
         cases_foreign::all(),
         cases_counts::all(),
+        cases_index::all(),
+        cases_no_index::all(),
     ]
     .concat()
 }

@@ -1,15 +1,18 @@
-//! Checks grid plans and stores a second way: chains in place of levels, reading back, and words in place of cells.
+//! Checks grid plans, stores and reads a second way: chains in place of levels, reading back, words in place of cells,
+//! and the bits of counters in place of counters.
 
 use crate::bits::{bit_of_word, bytes_that_hold};
-use crate::call::{GridPlan, GridStore};
+use crate::call::{GridPlan, GridRead, GridStore};
 use crate::chains::{verdict, Verdict};
+use crate::check_index::{check_index, check_no_index};
 use crate::counters::{counter_width, stored_counter};
-use crate::grid::{self, Answer};
+use crate::grid::{self, Answer, ReadAnswer};
 use crate::levels::states;
 
-/// Checks a plan already made: refusal 7 and L by chains, and of an accepted one its counts, and its counters by a
-/// store with them.
+/// Checks a plan already made: that it names no counter, refusal 7 and L by chains, and of an accepted one its counts,
+/// and its counters by a store with them.
 pub fn check_plan(call: &GridPlan, answer: Answer) -> Result<(), String> {
+    check_no_index(answer.number, answer.index)?;
     if answer.number == 0 || answer.number == 7 {
         check_by_chains(call, answer)?;
     }
@@ -93,8 +96,15 @@ fn try_store(call: &GridPlan, planned: Answer) -> Result<(), String> {
     check_store(&store, stored)
 }
 
-/// Checks a store already made: what an accepted one left, and the reason of one that is refused with 13.
+/// Checks a read already made: which counter it names.
+pub fn check_read(call: &GridRead, answer: ReadAnswer) -> Result<(), String> {
+    check_index(call.numbers, &call.counters, answer.number, answer.index)
+}
+
+/// Checks a store already made: which counter it names, what an accepted one left, and the reason of one that is
+/// refused with 13.
 pub fn check_store(call: &GridStore, answer: Answer) -> Result<(), String> {
+    check_index(call.numbers, &call.counters, answer.number, answer.index)?;
     match answer.number {
         0 => {
             check_stuck_cells(call)?;
@@ -126,10 +136,10 @@ fn check_stuck_cells(call: &GridStore) -> Result<(), String> {
 /// The data comes back by the read.
 fn check_reading(call: &GridStore) -> Result<(), String> {
     let mut shown = vec![0; call.data.len()];
-    let number = grid::read(call.numbers, &call.cells, &call.counters, &mut shown);
-    if number != 0 || shown != call.data {
+    let answer = grid::read(call.numbers, &call.cells, &call.counters, &mut shown);
+    if answer.number != 0 || shown != call.data {
         return Err(format!(
-            "a grid store does not read back (read answers {number})"
+            "a grid store does not read back (read answers {answer:?})"
         ));
     }
     Ok(())

@@ -96,6 +96,17 @@ pub fn greatest_counter(counters: &Counters) -> usize {
     greatest
 }
 
+/// The index of the first counter above K, if there is one: the rows are counted first and then the columns, from 0.
+pub fn first_counter_above(counters: &Counters, most_levels: usize) -> Option<usize> {
+    let in_order = counters.rows.iter().chain(counters.columns.iter());
+    for (index, counter) in in_order.enumerate() {
+        if *counter > most_levels {
+            return Some(index);
+        }
+    }
+    None
+}
+
 /// Whether the bit of a cell is stored and read inverted: the smaller of its two counters is odd.
 pub fn is_inverted(counters: &Counters, row: usize, column: usize) -> bool {
     counters.rows[row].min(counters.columns[column]) % 2 == 1

@@ -1,13 +1,11 @@
-//! Damage to grid calls: numbers, lengths, bits past the last column, spare bits, and counters above K.
+//! Damage to grid calls: numbers, lengths, bits past the last column, and the damage to their counters.
 
-use crate::bits::{bytes_that_hold, set_bit_of_bytes};
+use crate::bits::bytes_that_hold;
 use crate::call::{GridPlan, GridRead, GridStore};
-use crate::counters::{counter_width, MOST_LEVELS, MOST_LINES};
+use crate::counters::counter_width;
 use crate::damage::{number_near_limit, number_outside, resize_bytes, resize_words};
+use crate::damage_counters::{raise_counters, set_spare_bits, MOST};
 use crate::random::Random;
-
-/// The ranges of rows, columns and K end here.
-const MOST: [u64; 3] = [MOST_LINES, MOST_LINES, MOST_LEVELS];
 
 /// Gives a grid plan one kind of damage.
 pub fn damage_plan(random: &mut Random, call: &mut GridPlan) {
@@ -130,61 +128,5 @@ fn set_bits_past(random: &mut Random, columns: u64, words: &mut [u64]) {
     };
     for bit in bits {
         words[row] |= 1 << bit;
-    }
-}
-
-/// The bits that the counters of these numbers use, if the numbers are in range and the length is theirs.
-fn used_bits(numbers: [u64; 3], counters: &[u8]) -> Option<usize> {
-    if (0..3).any(|place| !(1..=MOST[place]).contains(&numbers[place])) {
-        return None;
-    }
-    let used = (numbers[0] + numbers[1]) as usize * counter_width(numbers[2] as usize);
-    if counters.len() == bytes_that_hold(used) {
-        Some(used)
-    } else {
-        None
-    }
-}
-
-/// Sets the first spare bit, the last, any one or all, if there is one.
-fn set_spare_bits(random: &mut Random, numbers: [u64; 3], counters: &mut [u8]) {
-    let first = match used_bits(numbers, counters) {
-        Some(used) if used < counters.len() * 8 => used,
-        _ => return,
-    };
-    let last = counters.len() * 8 - 1;
-    let one = random.between(first, last);
-    match random.below(4) {
-        0 => set_bit_of_bytes(counters, first, true),
-        1 => set_bit_of_bytes(counters, last, true),
-        2 => set_bit_of_bytes(counters, one, true),
-        _ => {
-            for spare in first..=last {
-                set_bit_of_bytes(counters, spare, true);
-            }
-        }
-    }
-}
-
-/// Sets every bit of one counter, or of all: above K for K = 2, and the most that is allowed for 1 and 3.
-fn raise_counters(random: &mut Random, numbers: [u64; 3], counters: &mut [u8]) {
-    let used = match used_bits(numbers, counters) {
-        Some(used) => used,
-        None => return,
-    };
-    let width = counter_width(numbers[2] as usize);
-    let count = used / width;
-    let rows = numbers[0] as usize;
-    let any = random.below(count);
-    let place = random.pick(&[0, rows - 1, rows, count - 1, any, any]);
-    let raised = if random.percent(10) {
-        0..count
-    } else {
-        place..place + 1
-    };
-    for counter in raised {
-        for bit in 0..width {
-            set_bit_of_bytes(counters, counter * width + bit, true);
-        }
     }
 }

@@ -1,16 +1,17 @@
 //! Grid blocks: a grid of cells with one counter for each row and each column (document 01, "Grid blocks"), whose
-//! write is a plan and a store (document 02, A7), which count the wrong and the right stuck cells apart (A9).
+//! write is a plan and a store (document 02, A7), which count the wrong and the right stuck cells apart (A9). A store
+//! and a read name the first counter above K (A4).
 
-use crate::bits::{bit_of_word, bytes_that_hold, has_bit_past, has_spare_bit, word_of};
+use crate::bits::{bit_of_word, word_of};
 use crate::counters::{
-    counter_bits, greatest_counter, is_inverted, judged_shape, packed_counters, unpacked_counters,
-    Counters, Shape,
+    greatest_counter, is_inverted, judged_shape, packed_counters, Counters, Shape,
 };
 use crate::fault_counts::{right_cells, stuck_cells, wrong_cells};
+use crate::judge_grid::{judge_lengths, judge_words, judged_counters, Refusal};
 use crate::levels::{states, take_levels};
 
-/// What a plan or a store answers: 0 or the refusal, L (the levels used, the greatest counter), the stuck cells F, and
-/// those of them that are wrong and right for the data.
+/// What a plan or a store answers: 0 or the refusal, L (the levels used, the greatest counter), the stuck cells F,
+/// those of them that are wrong and right for the data, and of refusal 4 the index of the first counter above K.
 #[derive(Clone, Copy, Debug, PartialEq, Eq)]
 pub struct Answer {
     pub number: u8,
@@ -18,16 +19,25 @@ pub struct Answer {
     pub stuck: usize,
     pub wrong: usize,
     pub right: usize,
+    pub index: usize,
 }
 
-/// The answer of a refusal: every count is 0.
-fn refused(number: u8) -> Answer {
+/// What a read answers: 0 or the refusal, and of refusal 4 the index of the first counter above K.
+#[derive(Clone, Copy, Debug, PartialEq, Eq)]
+pub struct ReadAnswer {
+    pub number: u8,
+    pub index: usize,
+}
+
+/// The answer of a plan or a store that is refused: every count is 0.
+fn refused(refusal: Refusal) -> Answer {
     Answer {
-        number,
+        number: refusal.number,
         levels: 0,
         stuck: 0,
         wrong: 0,
         right: 0,
+        index: refusal.index,
     }
 }
 
@@ -39,41 +49,8 @@ fn accepted(levels: usize, shape: Shape, data: &[u64], mask: &[u64], values: &[u
         stuck: stuck_cells(mask),
         wrong: wrong_cells(shape.columns, data, mask, values),
         right: right_cells(shape.columns, data, mask, values),
+        index: 0,
     }
-}
-
-/// Refusal 2: a buffer of words has not one word a row, or the counters have not the bytes that hold them.
-fn judge_lengths(shape: Shape, words: &[usize], counters: usize) -> Result<(), u8> {
-    if words.iter().any(|length| *length != shape.rows) {
-        return Err(2);
-    }
-    if counters != bytes_that_hold(counter_bits(shape)) {
-        return Err(2);
-    }
-    Ok(())
-}
-
-/// Refusal 3: a word that is read has a bit past the last column.
-fn judge_words(shape: Shape, buffers: &[&[u64]]) -> Result<(), u8> {
-    if buffers
-        .iter()
-        .any(|words| has_bit_past(words, shape.columns))
-    {
-        return Err(3);
-    }
-    Ok(())
-}
-
-/// The counters of a buffer of the right length, or refusal 3 for a spare bit, or refusal 4 for a counter above K.
-fn judged_counters(shape: Shape, packed: &[u8]) -> Result<Counters, u8> {
-    if has_spare_bit(packed, counter_bits(shape)) {
-        return Err(3);
-    }
-    let counters = unpacked_counters(shape, packed);
-    if greatest_counter(&counters) > shape.most_levels {
-        return Err(4);
-    }
-    Ok(counters)
 }
 
 /// Works out the packed counters and the answer of a plan, or the lowest refusal of 1, 2, 3 and 7.
@@ -83,7 +60,7 @@ fn planned(
     mask: &[u64],
     values: &[u64],
     counters_length: usize,
-) -> Result<(Vec<u8>, Answer), u8> {
+) -> Result<(Vec<u8>, Answer), Refusal> {
     let shape = judged_shape(numbers[0], numbers[1], numbers[2])?;
     let lengths = [data.len(), mask.len(), values.len()];
     judge_lengths(shape, &lengths, counters_length)?;
@@ -104,7 +81,7 @@ pub fn plan(
     counters: &mut [u8],
 ) -> Answer {
     match planned(numbers, data, mask, values, counters.len()) {
-        Err(number) => refused(number),
+        Err(refusal) => refused(refusal),
         Ok((packed, answer)) => {
             counters.copy_from_slice(&packed);
             answer
@@ -177,7 +154,7 @@ fn to_store(
     values: &[u64],
     packed: &[u8],
     cells_length: usize,
-) -> Result<(Vec<u64>, Answer), u8> {
+) -> Result<(Vec<u64>, Answer), Refusal> {
     let shape = judged_shape(numbers[0], numbers[1], numbers[2])?;
     let lengths = [data.len(), mask.len(), values.len(), cells_length];
     judge_lengths(shape, &lengths, packed.len())?;
@@ -201,7 +178,7 @@ pub fn store(
     cells: &mut [u64],
 ) -> Answer {
     match to_store(numbers, data, mask, values, counters, cells.len()) {
-        Err(number) => refused(number),
+        Err(refusal) => refused(refusal),
         Ok((stored, answer)) => {
             cells.copy_from_slice(&stored);
             answer
@@ -215,7 +192,7 @@ fn to_show(
     cells: &[u64],
     packed: &[u8],
     output_length: usize,
-) -> Result<Vec<u64>, u8> {
+) -> Result<Vec<u64>, Refusal> {
     let shape = judged_shape(numbers[0], numbers[1], numbers[2])?;
     judge_lengths(shape, &[cells.len(), output_length], packed.len())?;
     judge_words(shape, &[cells])?;
@@ -225,12 +202,15 @@ fn to_show(
 
 /// The grid read for the numbers rows, columns and K: answers 0 and fills the output, or answers the
 /// refusal and alters nothing.
-pub fn read(numbers: [u64; 3], cells: &[u64], counters: &[u8], output: &mut [u64]) -> u8 {
+pub fn read(numbers: [u64; 3], cells: &[u64], counters: &[u8], output: &mut [u64]) -> ReadAnswer {
     match to_show(numbers, cells, counters, output.len()) {
-        Err(number) => number,
+        Err(Refusal { number, index }) => ReadAnswer { number, index },
         Ok(shown) => {
             output.copy_from_slice(&shown);
-            0
+            ReadAnswer {
+                number: 0,
+                index: 0,
+            }
         }
     }
 }

@@ -85,11 +85,33 @@ pub fn store_over(name: &'static str, block: &Block, counters: &[u8], old_cells:
 
 /// A read as a case, into junk.
 pub fn read(name: &'static str, numbers: [u64; 3], cells: &[u64], counters: &[u8]) -> Case {
+    read_into(name, numbers, cells, counters, cells.len())
+}
+
+/// A read as a case, into so many words of junk.
+pub fn read_into(
+    name: &'static str,
+    numbers: [u64; 3],
+    cells: &[u64],
+    counters: &[u8],
+    output_words: usize,
+) -> Case {
     let call = GridRead {
         numbers,
         cells: cells.to_vec(),
         counters: counters.to_vec(),
-        output: vec![JUNK_WORD; cells.len()],
+        output: vec![JUNK_WORD; output_words],
     };
     (name, Call::GridRead(call))
+}
+
+/// The names of a read and of a store of the same block with the same counters.
+pub type Names = [&'static str; 2];
+
+/// The read and the store with these names, both into junk; the read's cells are the data words.
+pub fn read_and_store(names: Names, block: &Block, counters: &[u8]) -> Vec<Case> {
+    vec![
+        read(names[0], block.numbers, &block.data, counters),
+        store(names[1], block, counters),
+    ]
 }

@@ -2,11 +2,14 @@
 
 use crate::call::{Call, GridPlan, GridStore, PointerWrite};
 use crate::random::Random;
-use crate::{damage_grid, damage_pointer, grid, pointer};
+use crate::{damage_counters, damage_grid, damage_pointer, grid, pointer};
 use crate::{make_grid, make_plan, make_pointer, make_store};
 
 /// How many rows, plans and grids are remembered for later calls.
 const MOST_KEPT: usize = 6;
+
+/// So many stores and reads in a hundred get counters above K before any other damage.
+const PERCENT_WITH_BAD_COUNTERS: usize = 20;
 
 /// Makes calls one after another and remembers what accepted writes, plans and stores left.
 pub struct Maker {
@@ -138,6 +141,9 @@ impl Maker {
         if random.percent(15) {
             make_store::change_idle_counters(random, &mut call);
         }
+        if random.percent(PERCENT_WITH_BAD_COUNTERS) {
+            damage_counters::put_bad_counters(random, &mut call.numbers, &mut call.counters);
+        }
         for _ in 0..damages(random) {
             damage_grid::damage_store(random, &mut call);
         }
@@ -163,6 +169,9 @@ impl Maker {
             Some(grid) => make_grid::read_of(random, grid),
             None => make_grid::read_of_some_grid(random),
         };
+        if random.percent(PERCENT_WITH_BAD_COUNTERS) {
+            damage_counters::put_bad_counters(random, &mut call.numbers, &mut call.counters);
+        }
         for _ in 0..damages(random) {
             damage_grid::damage_read(random, &mut call);
         }

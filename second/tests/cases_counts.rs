@@ -1,5 +1,6 @@
 //! The cases of the two fault counts come out as written: each line below was derived by hand from document 01 and
-//! document 02, A7 and A9. After the number stand L, F, the wrong cells and the right ones.
+//! document 02, A4, A7 and A9. After the number stand L, F, the wrong cells and the right ones, and in the line of a
+//! store the index, 0.
 
 mod lines;
 
@@ -32,7 +33,7 @@ fn full() -> Vec<(&'static str, String)> {
         ),
         (
             "A9 store, 64 by 64 right",
-            format!("0 0 4096 0 4096 {right}"),
+            format!("0 0 4096 0 4096 0 {right}"),
         ),
         (
             "A9, 64 by 64 wrong",
@@ -40,7 +41,7 @@ fn full() -> Vec<(&'static str, String)> {
         ),
         (
             "A9 store, 64 by 64 wrong",
-            format!("0 1 4096 4096 0 {wrong}"),
+            format!("0 1 4096 4096 0 0 {wrong}"),
         ),
         (
             "A9, last row wrong",
@@ -48,7 +49,7 @@ fn full() -> Vec<(&'static str, String)> {
         ),
         (
             "A9 store, last row wrong",
-            format!("0 1 4096 64 4032 {last_row}"),
+            format!("0 1 4096 64 4032 0 {last_row}"),
         ),
         (
             "A9, last column wrong",
@@ -56,7 +57,7 @@ fn full() -> Vec<(&'static str, String)> {
         ),
         (
             "A9 store, last column wrong",
-            format!("0 1 64 64 0 {last_column}"),
+            format!("0 1 64 64 0 0 {last_column}"),
         ),
     ]
 }
@@ -71,7 +72,7 @@ fn the_cases_of_the_fault_counts_come_out_as_written() {
         ),
         (
             "A9 store, 2 by 5, sound values equal",
-            format!("0 1 4 1 3 {}", words(&[0x09, 0x12])),
+            format!("0 1 4 1 3 0 {}", words(&[0x09, 0x12])),
         ),
         (
             "A9, 2 by 5, sound values differ",
@@ -79,49 +80,49 @@ fn the_cases_of_the_fault_counts_come_out_as_written() {
         ),
         (
             "A9 store, 2 by 5, sound values differ",
-            format!("0 1 4 1 3 {}", words(&[0x09, 0x12])),
+            format!("0 1 4 1 3 0 {}", words(&[0x09, 0x12])),
         ),
         ("A9, 2 by 5, data inverted", String::from("0 1 4 3 1 4f")),
         (
             "A9 store, 2 by 5, data inverted",
-            format!("0 1 4 3 1 {}", words(&[0x01, 0x1e])),
+            format!("0 1 4 3 1 0 {}", words(&[0x01, 0x1e])),
         ),
         (
             "A9 store, 2 by 5, column 0 raised",
-            format!("0 1 4 1 3 {}", words(&[0x08, 0x12])),
+            format!("0 1 4 1 3 0 {}", words(&[0x08, 0x12])),
         ),
         ("A9, 5 by 2", String::from("0 2 6 2 4 1224")),
         (
             "A9 store, 5 by 2",
-            format!("0 2 6 2 4 {}", words(&[0, 2, 0, 0, 2])),
+            format!("0 2 6 2 4 0 {}", words(&[0, 2, 0, 0, 2])),
         ),
         ("A9, 5 by 2 with K = 1", String::from("7 0 0 0 0 a5")),
         (
             "A9 store, 5 by 2, row 2 lowered",
-            format!("13 0 0 0 0 {}", junk(40)),
+            format!("13 0 0 0 0 0 {}", junk(40)),
         ),
         (
             "A9 store, 5 by 2, row 4 raised",
-            format!("13 0 0 0 0 {}", junk(40)),
+            format!("13 0 0 0 0 0 {}", junk(40)),
         ),
         ("A9, wrong cells alone", String::from("0 1 3 3 0 1d")),
         (
             "A9 store, wrong cells alone",
-            format!("0 1 3 3 0 {}", words(&[1, 1, 0])),
+            format!("0 1 3 3 0 0 {}", words(&[1, 1, 0])),
         ),
         ("A9, right cells alone", String::from("0 0 3 0 3 00")),
         (
             "A9 store, right cells alone",
-            format!("0 0 3 0 3 {}", words(&[2, 1, 3])),
+            format!("0 0 3 0 3 0 {}", words(&[2, 1, 3])),
         ),
         (
             "A9 store, right cells inverted",
-            format!("13 0 0 0 0 {}", junk(24)),
+            format!("13 0 0 0 0 0 {}", junk(24)),
         ),
         ("A9, none stuck, values equal", String::from("0 0 0 0 0 00")),
         (
             "A9 store, none stuck, values equal",
-            format!("0 0 0 0 0 {}", words(&[2, 1, 3])),
+            format!("0 0 0 0 0 0 {}", words(&[2, 1, 3])),
         ),
         (
             "A9, none stuck, values differ",
@@ -129,20 +130,20 @@ fn the_cases_of_the_fault_counts_come_out_as_written() {
         ),
         (
             "A9 store, none stuck, values differ",
-            format!("0 0 0 0 0 {}", words(&[2, 1, 3])),
+            format!("0 0 0 0 0 0 {}", words(&[2, 1, 3])),
         ),
         (
             "A9 store, L above right",
-            format!("0 3 3 3 0 {}", words(&[1, 1, 0])),
+            format!("0 3 3 3 0 0 {}", words(&[1, 1, 0])),
         ),
         (
             "A9 store, L above wrong",
-            format!("0 3 3 0 3 {}", words(&[2, 1, 3])),
+            format!("0 3 3 0 3 0 {}", words(&[2, 1, 3])),
         ),
         ("A9, 4 by 6", String::from("0 1 23 12 11 f303")),
         (
             "A9 store, 4 by 6",
-            format!("0 1 23 12 11 {}", words(&[0x15, 0x2a, 0x33, 0x0c])),
+            format!("0 1 23 12 11 0 {}", words(&[0x15, 0x2a, 0x33, 0x0c])),
         ),
         (
             "A9, 64 by 1",
@@ -150,7 +151,7 @@ fn the_cases_of_the_fault_counts_come_out_as_written() {
         ),
         (
             "A9 store, 64 by 1",
-            format!("0 1 43 22 21 {}", words(&single_column)),
+            format!("0 1 43 22 21 0 {}", words(&single_column)),
         ),
     ];
     lines.extend(full());

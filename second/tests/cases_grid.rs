@@ -1,86 +1,82 @@
-//! The grid cases come out as written: each line below was derived by hand from document 01 and document 02, A7 and A9.
+//! The grid cases come out as written: each line below was derived by hand from document 01 and document 02, A4, A7
+//! and A9. The last figure of a read and of a store is the index of the first counter above K.
 
 mod lines;
+#[path = "lines/words.rs"]
+mod words;
 
 use lines::{check, junk};
-use second::{cases_counts, cases_edges, cases_foreign, cases_grid};
-
-/// Words of one hex digit each, as they print.
-fn words(digits: &str) -> String {
-    digits
-        .chars()
-        .map(|digit| format!("000000000000000{digit}"))
-        .collect()
-}
-
-/// Lines whose cells, where there are any, are words of one hex digit each.
-fn with_words(lines: &[(&'static str, &str, &str)]) -> Vec<(&'static str, String)> {
-    lines
-        .iter()
-        .map(|(name, start, digits)| (*name, format!("{start} {}", words(digits))))
-        .collect()
-}
+use second::{cases_counts, cases_edges, cases_foreign, cases_grid, cases_index, cases_no_index};
+use words::words;
 
 #[test]
 fn the_cases_of_document_01_come_out_as_written() {
     let two = junk(16);
     let lines = [
         ("G1", String::from("0 0 0 0 0 00")),
-        ("G1 store", format!("0 0 0 0 0 {}", words("12"))),
-        ("G1 read", format!("0 {}", words("12"))),
+        ("G1 store", format!("0 0 0 0 0 0 {}", words("12"))),
+        ("G1 read", format!("0 0 {}", words("12"))),
         ("G1, values at sound cells", String::from("0 0 0 0 0 00")),
         (
             "G1 store, values at sound cells",
-            format!("0 0 0 0 0 {}", words("12")),
+            format!("0 0 0 0 0 0 {}", words("12")),
         ),
         ("G1, old counters ff", String::from("0 0 0 0 0 00")),
         (
             "G1 store, old cells all ones",
-            format!("0 0 0 0 0 {}", words("12")),
+            format!("0 0 0 0 0 0 {}", words("12")),
         ),
-        ("G1 read, cells past the columns", format!("3 {two}")),
-        ("G1 read, spare bit 1", format!("3 {two}")),
+        ("G1 read, cells past the columns", format!("3 0 {two}")),
+        ("G1 read, spare bit 1", format!("3 0 {two}")),
         ("G2", String::from("0 1 1 1 0 03")),
-        ("G2 store", format!("0 1 1 1 0 {}", words("0"))),
-        ("G2 read", format!("0 {}", words("1"))),
+        ("G2 store", format!("0 1 1 1 0 0 {}", words("0"))),
+        ("G2 read", format!("0 0 {}", words("1"))),
         ("G2, stuck at 1", String::from("0 0 1 0 1 00")),
-        ("G2 store, stuck at 1", format!("0 0 1 0 1 {}", words("1"))),
-        ("G2 read, spare bit 1", format!("3 {}", junk(8))),
-        ("G2 read, row counter alone", format!("0 {}", words("0"))),
+        (
+            "G2 store, stuck at 1",
+            format!("0 0 1 0 1 0 {}", words("1")),
+        ),
+        ("G2 read, spare bit 1", format!("3 0 {}", junk(8))),
+        ("G2 read, row counter alone", format!("0 0 {}", words("0"))),
         ("G3", String::from("0 2 3 2 1 96")),
-        ("G3 store", format!("0 2 3 2 1 {}", words("13"))),
-        ("G3 read", format!("0 {}", words("00"))),
+        ("G3 store", format!("0 2 3 2 1 0 {}", words("13"))),
+        ("G3 read", format!("0 0 {}", words("00"))),
         ("G3 with K = 2", String::from("0 2 3 2 1 96")),
-        ("G3 store with K = 2", format!("0 2 3 2 1 {}", words("13"))),
+        (
+            "G3 store with K = 2",
+            format!("0 2 3 2 1 0 {}", words("13")),
+        ),
         ("G4", String::from("7 0 0 0 0 a5")),
         ("G4 without its right cell", String::from("0 1 2 2 0 0f")),
         (
             "G4 store without its right cell",
-            format!("0 1 2 2 0 {}", words("33")),
+            format!("0 1 2 2 0 0 {}", words("33")),
         ),
         ("G5, K = 1", String::from("7 0 0 0 0 a5")),
         ("G5, K = 2", String::from("7 0 0 0 0 a5")),
         ("G5, K = 3", String::from("7 0 0 0 0 a5")),
         ("G6, K = 3", String::from("0 3 5 3 2 5e0b")),
-        ("G6 store", format!("0 3 5 3 2 {}", words("137"))),
-        ("G6 read", format!("0 {}", words("000"))),
-        ("G6 read, spare bit 1", format!("3 {}", junk(24))),
+        ("G6 store", format!("0 3 5 3 2 0 {}", words("137"))),
+        ("G6 read", format!("0 0 {}", words("000"))),
+        ("G6 read, spare bit 1", format!("3 0 {}", junk(24))),
         ("G6, K = 2", String::from("7 0 0 0 0 a5a5")),
         ("G6, K = 1", String::from("7 0 0 0 0 a5")),
         ("G7", String::from("7 0 0 0 0 a5a5")),
         ("G7 without (3,3)", String::from("0 3 6 3 3 1e2d")),
         (
             "G7 store without (3,3)",
-            format!("0 3 6 3 3 {}", words("1370")),
+            format!("0 3 6 3 3 0 {}", words("1370")),
         ),
         ("G8", String::from("0 1 3 1 2 09")),
-        ("G8 store", format!("0 1 3 1 2 {}", words("20"))),
-        ("G8 read", format!("0 {}", words("00"))),
+        ("G8 store", format!("0 1 3 1 2 0 {}", words("20"))),
+        ("G8 read", format!("0 0 {}", words("00"))),
     ];
     let others = [
         cases_edges::all(),
         cases_foreign::all(),
         cases_counts::all(),
+        cases_index::all(),
+        cases_no_index::all(),
     ]
     .concat();
     let all = cases_grid::all();
@@ -92,21 +88,21 @@ fn the_edges_come_out_as_written() {
     let one = junk(8);
     let two = junk(16);
     let plan_refused = |number: u8| format!("{number} 0 0 0 0 a5");
-    let store_refused = |number: u8| format!("{number} 0 0 0 0 {two}");
-    let short = |digits: &str| format!("2 0 0 0 0 {}", words(digits));
+    let store_refused = |number: u8| format!("{number} 0 0 0 0 0 {two}");
+    let short = |digits: &str| format!("2 0 0 0 0 0 {}", words(digits));
     let lines = [
         ("G9, K = 0", plan_refused(1)),
         ("G9, K = 1", String::from("0 0 0 0 0 00")),
         ("G9, K = 3", String::from("0 0 0 0 0 00")),
         ("G9, K = 4", plan_refused(1)),
         ("G9 store, K = 0", store_refused(1)),
-        ("G9 store, K = 1", format!("0 0 0 0 0 {}", words("12"))),
-        ("G9 store, K = 3", format!("0 0 0 0 0 {}", words("12"))),
+        ("G9 store, K = 1", format!("0 0 0 0 0 0 {}", words("12"))),
+        ("G9 store, K = 3", format!("0 0 0 0 0 0 {}", words("12"))),
         ("G9 store, K = 4", store_refused(1)),
-        ("G9 read, K = 0", format!("1 {two}")),
-        ("G9 read, K = 1", format!("0 {}", words("12"))),
-        ("G9 read, K = 3", format!("0 {}", words("12"))),
-        ("G9 read, K = 4", format!("1 {two}")),
+        ("G9 read, K = 0", format!("1 0 {two}")),
+        ("G9 read, K = 1", format!("0 0 {}", words("12"))),
+        ("G9 read, K = 3", format!("0 0 {}", words("12"))),
+        ("G9 read, K = 4", format!("1 0 {two}")),
         ("G9, K = 2^32 + 1", plan_refused(1)),
         ("G9, rows 0", plan_refused(1)),
         ("G9, columns 65", plan_refused(1)),
@@ -114,36 +110,42 @@ fn the_edges_come_out_as_written() {
         ("G9 store, rows 0", store_refused(1)),
         ("G9 store, columns 65", store_refused(1)),
         ("G9 store, columns 2^64 - 1", store_refused(1)),
-        ("G9 read, rows 2^64 - 1", format!("1 {two}")),
-        ("G9 read, columns 256 + 2", format!("1 {two}")),
-        ("G10, K = 2, row counter 2", format!("0 {}", words("21"))),
-        ("G10, K = 2, row counter 3", format!("4 {two}")),
-        ("G10, K = 3, row counter 3", format!("0 {}", words("21"))),
-        ("G10, K = 2, column counter 2", format!("0 {}", words("12"))),
-        ("G10, K = 2, column counter 3", format!("4 {two}")),
-        ("G10, K = 2, counters 2", format!("0 {}", words("12"))),
-        ("G10, K = 3, counters 3", format!("0 {}", words("21"))),
+        ("G9 read, rows 2^64 - 1", format!("1 0 {two}")),
+        ("G9 read, columns 256 + 2", format!("1 0 {two}")),
+        ("G10, K = 2, row counter 2", format!("0 0 {}", words("21"))),
+        ("G10, K = 2, row counter 3", format!("4 0 {two}")),
+        ("G10, K = 3, row counter 3", format!("0 0 {}", words("21"))),
+        (
+            "G10, K = 2, column counter 2",
+            format!("0 0 {}", words("12")),
+        ),
+        ("G10, K = 2, column counter 3", format!("4 3 {two}")),
+        ("G10, K = 2, counters 2", format!("0 0 {}", words("12"))),
+        ("G10, K = 3, counters 3", format!("0 0 {}", words("21"))),
         (
             "G10 store, K = 2, row counter 2",
-            format!("0 2 0 0 0 {}", words("21")),
+            format!("0 2 0 0 0 0 {}", words("21")),
         ),
         ("G10 store, K = 2, row counter 3", store_refused(4)),
         (
             "G10 store, K = 3, row counter 3",
-            format!("0 3 0 0 0 {}", words("21")),
+            format!("0 3 0 0 0 0 {}", words("21")),
         ),
         (
             "G10 store, K = 2, column counter 2",
-            format!("0 2 0 0 0 {}", words("12")),
+            format!("0 2 0 0 0 0 {}", words("12")),
         ),
-        ("G10 store, K = 2, column counter 3", store_refused(4)),
+        (
+            "G10 store, K = 2, column counter 3",
+            format!("4 0 0 0 0 3 {two}"),
+        ),
         (
             "G10 store, K = 2, counters 2",
-            format!("0 2 0 0 0 {}", words("12")),
+            format!("0 2 0 0 0 0 {}", words("12")),
         ),
         (
             "G10 store, K = 3, counters 3",
-            format!("0 3 0 0 0 {}", words("21")),
+            format!("0 3 0 0 0 0 {}", words("21")),
         ),
         ("G1, data past the columns", plan_refused(3)),
         ("G1, mask past the columns", plan_refused(3)),
@@ -153,12 +155,12 @@ fn the_edges_come_out_as_written() {
         ("G1 store, values past the columns", store_refused(3)),
         ("G1 store, spare bit 1", store_refused(3)),
         ("G1 store, last spare bit 1", store_refused(3)),
-        ("G2 store, spare bit 1", format!("3 0 0 0 0 {one}")),
+        ("G2 store, spare bit 1", format!("3 0 0 0 0 0 {one}")),
         (
             "64 columns, last cell wrong",
             String::from("0 1 1 1 0 010000000000000001"),
         ),
-        ("64 columns, store", format!("0 1 1 1 0 {}", words("0"))),
+        ("64 columns, store", format!("0 1 1 1 0 0 {}", words("0"))),
         ("G1, data one word short", plan_refused(2)),
         ("G1, data one word long", plan_refused(2)),
         ("G1, mask one word short", plan_refused(2)),
@@ -179,9 +181,9 @@ fn the_edges_come_out_as_written() {
         ("G1 store, cells one word long", short("999")),
         (
             "G1 store, no buffer has anything",
-            String::from("2 0 0 0 0 -"),
+            String::from("2 0 0 0 0 0 -"),
         ),
-        ("1 before 2, 3 and 4", format!("1 0 0 0 0 {}", words("9"))),
+        ("1 before 2, 3 and 4", format!("1 0 0 0 0 0 {}", words("9"))),
         ("2 before 3, 4 and 13", short("9")),
         ("3 before 4 and 13", store_refused(3)),
         ("4 before 13", store_refused(4)),
@@ -191,60 +193,4 @@ fn the_edges_come_out_as_written() {
         ("Plan, 3 before 7", plan_refused(3)),
     ];
     check(&cases_edges::all(), &lines);
-}
-
-#[test]
-fn stores_with_foreign_counters_come_out_as_written() {
-    let refused = |name: &'static str, number: u8, rows: usize| {
-        vec![(name, format!("{number} 0 0 0 0 {}", junk(8 * rows)))]
-    };
-    let lines = [
-        with_words(&[
-            ("G1 store, all counters 1", "0 1 0 0 0", "21"),
-            ("G1 store, first row alone", "0 1 0 0 0", "12"),
-            ("G1 store, last row alone", "0 1 0 0 0", "12"),
-            ("G1 store, first column alone", "0 1 0 0 0", "12"),
-            ("G1 store, last column alone", "0 1 0 0 0", "12"),
-            ("G1 store, one cell inverted", "0 1 0 0 0", "02"),
-            ("G1 store, K = 2, row counter 2 alone", "0 2 0 0 0", "12"),
-            ("G1 store, K = 2, column counter 2 alone", "0 2 0 0 0", "12"),
-            ("G1 store, K = 3, row counter 3 alone", "0 3 0 0 0", "12"),
-            ("G1 store, K = 3, column counter 3 alone", "0 3 0 0 0", "12"),
-            ("G1 store, K = 3, row 3 and columns 1", "0 3 0 0 0", "22"),
-            ("G1 store, K = 3, row 2 and columns 3", "0 3 0 0 0", "12"),
-        ]),
-        refused("G2 store, all counters 0", 13, 1),
-        refused("G2 store, row counter alone", 13, 1),
-        refused("G2 store, column counter alone", 13, 1),
-        with_words(&[
-            ("G2 store, stuck at 1, row counter alone", "0 1 1 0 1", "1"),
-            (
-                "G2 store, stuck at 1, column counter alone",
-                "0 1 1 0 1",
-                "1",
-            ),
-        ]),
-        refused("G2 store, stuck at 1, both counters", 13, 1),
-        refused("G3 store, all counters 0", 13, 2),
-        with_words(&[
-            ("G3 store, row 0 raised to 3", "0 3 3 2 1", "13"),
-            ("G3 store, column 1 raised to 3", "0 3 3 2 1", "13"),
-        ]),
-        refused("G3 store, row 1 raised to 2", 13, 2),
-        refused("G3 store, all counters 3", 13, 2),
-        refused("G3 store with K = 2, row 0 raised to 3", 4, 2),
-        refused("G4 store, all counters 0", 13, 2),
-        refused("G4 store, all counters 1", 13, 2),
-        refused("G5 store, counters of G3", 13, 2),
-        refused("G6 store, all counters 0", 13, 3),
-        refused("G6 store, row 1 lowered to 2", 13, 3),
-        refused("G6 store, K = 2, counters of K = 3", 4, 3),
-        refused("G6 store, spare bit 1", 3, 3),
-        refused("G7 store, last cell alone misread", 13, 4),
-        refused("G8 store, all counters 0", 13, 2),
-        refused("G8 store, row 1 raised", 13, 2),
-        refused("G8 store, column 0 raised", 13, 2),
-    ]
-    .concat();
-    check(&cases_foreign::all(), &lines);
 }

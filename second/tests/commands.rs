@@ -44,7 +44,7 @@ fn one_cell_read() -> Vec<u8> {
 
 #[test]
 fn calls_print_one_line_each() {
-    let line = "0 0000000000000001\n";
+    let line = "0 0 0000000000000001\n";
     assert_eq!(printed(&[]), "");
     assert_eq!(printed(&one_cell_read()), line);
     let twice = [one_cell_read(), one_cell_read()].concat();
@@ -68,20 +68,20 @@ fn one_cell_stuck(tag: u8, counters: u8) -> Vec<u8> {
 }
 
 #[test]
-fn plans_and_stores_print_four_counts() {
+fn plans_print_four_counts_and_stores_an_index_too() {
     let plan = one_cell_stuck(3, 0);
     let store = one_cell_stuck(5, 3);
     assert_eq!((plan.len(), store.len()), (58, 68));
     assert_eq!(printed(&plan), "0 1 1 1 0 03\n");
-    assert_eq!(printed(&store), "0 1 1 1 0 0000000000000000\n");
+    assert_eq!(printed(&store), "0 1 1 1 0 0 0000000000000000\n");
     let refused = one_cell_stuck(5, 1);
-    assert_eq!(printed(&refused), "13 0 0 0 0 0000000000000000\n");
+    assert_eq!(printed(&refused), "13 0 0 0 0 0 0000000000000000\n");
 }
 
 #[test]
 fn bad_calls_stop_the_run() {
     let good = one_cell_read();
-    let line = "0 0000000000000001\n";
+    let line = "0 0 0000000000000001\n";
     for length in 1..good.len() {
         assert_eq!(printed(&good[..length]), "bad call\n");
         let after_good = [&good, &good[..length]].concat();
@@ -118,7 +118,7 @@ fn read_of_words(count: u16) -> Vec<u8> {
 fn a_buffer_holds_at_most_1024_elements() {
     for count in [512, 513, 1023, 1024] {
         assert_eq!(printed(&read_of_bytes(count)), "2 -\n");
-        assert_eq!(printed(&read_of_words(count)), "2 -\n");
+        assert_eq!(printed(&read_of_words(count)), "2 0 -\n");
     }
     for count in [1025, 2048, u16::MAX] {
         assert_eq!(printed(&read_of_bytes(count)), "bad call\n");
@@ -138,7 +138,7 @@ fn made_calls_run_to_the_end() {
 #[test]
 fn cases_run_to_the_end() {
     let cases = second(&["cases"], &[]).stdout;
-    assert_eq!(printed(&cases).lines().count(), 60 + 182);
+    assert_eq!(printed(&cases).lines().count(), 60 + 277);
 }
 
 #[test]

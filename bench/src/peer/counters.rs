@@ -90,13 +90,32 @@ pub fn load_double(packed: &[u8]) -> [u64; 4] {
     ]
 }
 
+/// The counters of a word that are 3, each a bit at its even place.
+#[inline(always)]
+fn threes(word: u64) -> u64 {
+    word & word >> 1 & EVEN
+}
+
 /// Whether one of these counters is 3.
 #[inline(always)]
 pub fn has_three(words: [u64; 4]) -> bool {
-    words
-        .iter()
-        .fold(0, |found, word| found | word & word >> 1 & EVEN)
-        != 0
+    words.iter().fold(0, |found, word| found | threes(*word)) != 0
+}
+
+/// The index of the first 3 among packed counters that have one: they stand in the order of their indices. It loads
+/// them again, so that a call that is not refused has all its registers.
+#[cold]
+#[inline(never)]
+pub fn first_three(packed: &[u8]) -> usize {
+    let [first, second, third, fourth] = load_double(packed).map(threes);
+    let lower = u128::from(first) | u128::from(second) << 64;
+    let upper = u128::from(third) | u128::from(fourth) << 64;
+    let bit = if lower == 0 {
+        128 + upper.trailing_zeros()
+    } else {
+        lower.trailing_zeros()
+    };
+    bit as usize / 2
 }
 
 /// The greatest of these counters.
@@ -141,7 +160,7 @@ pub fn inverted_rows(rows: usize, words: [u64; 4]) -> [u64; 2] {
 
 #[cfg(test)]
 mod tests {
-    use super::{gather, greatest, spread, EVEN};
+    use super::{first_three, gather, greatest, spread, EVEN};
 
     #[test]
     fn bits_are_spread_and_gathered() {
@@ -167,5 +186,18 @@ mod tests {
             }
         }
         assert_eq!(greatest([1, 2, 0, 0]), 2);
+    }
+    #[test]
+    fn the_first_three_is_found_wherever_it_stands() {
+        for place in 0..128 {
+            for others in 0..=2 {
+                let mut words = [EVEN * others; 4];
+                words[place / 32] |= 3 << (2 * place % 64);
+                assert_eq!(first_three(&words.map(u64::to_le_bytes).concat()), place);
+                // What stands after it is of no account.
+                words[3] |= 3 << 62;
+                assert_eq!(first_three(&words.map(u64::to_le_bytes).concat()), place);
+            }
+        }
     }
 }

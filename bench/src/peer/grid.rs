@@ -1,11 +1,11 @@
 //! The peer's grid blocks: the plan, the store and the read.
 
 use super::counters::{
-    bytes_of, column_sets, greatest, has_spare, has_three, inverted_rows, load_double, load_single,
-    store_double, store_single, store_zeros,
+    bytes_of, column_sets, first_three, greatest, has_spare, has_three, inverted_rows, load_double,
+    load_single, store_double, store_single, store_zeros,
 };
 use super::levels::{levels_of, rows_with_any, Block, Stuck};
-use crate::answers::{Answer, GridAnswer};
+use crate::answers::{Answer, GridAnswer, GridReadAnswer};
 
 /// Whether rows, columns or K lie outside their range; 0 wraps round to the largest number.
 #[inline(always)]
@@ -33,6 +33,7 @@ fn accepted(levels: usize, stuck: Stuck) -> GridAnswer {
         faults: stuck.all,
         wrong: stuck.wrong,
         right: stuck.all - stuck.wrong,
+        index: 0,
     }
 }
 
@@ -170,7 +171,11 @@ pub fn store(
     }
     let words = load_double(counters);
     if k == 2 && has_three(words) {
-        return GridAnswer::refused(4);
+        let index = first_three(counters);
+        return GridAnswer {
+            index,
+            ..GridAnswer::refused(4)
+        };
     }
     let rows_inverted = inverted_rows(rows, words);
     let inverted = if rows_inverted == [0, 0] {
@@ -187,9 +192,9 @@ pub fn store(
     accepted(greatest(words), stuck)
 }
 
-/// The grid read of document 01.
+/// A grid read but for the index: the number.
 #[inline(never)]
-pub fn read(
+fn read_number(
     rows: usize,
     columns: usize,
     k: usize,
@@ -229,4 +234,23 @@ pub fn read(
     let inverted = inverted_by(rows, columns, words);
     invert_double(rows_inverted, words, inverted, out);
     0
+}
+
+/// The grid read of documents 01 and 02. The index is looked for afterwards, at no cost to a read that is accepted.
+#[inline(always)]
+pub fn read(
+    rows: usize,
+    columns: usize,
+    k: usize,
+    cells: &[u64],
+    counters: &[u8],
+    out: &mut [u64],
+) -> GridReadAnswer {
+    let number = read_number(rows, columns, k, cells, counters, out);
+    let index = if number == 4 {
+        first_three(counters)
+    } else {
+        0
+    };
+    GridReadAnswer { number, index }
 }

@@ -1,9 +1,9 @@
--- Laws of what is said of all indices below a bound: some, sum, most, list. Assumes nothing.
+-- Laws of what is said of all indices below a bound: some, first, sum, most, list. Assumes nothing.
 use mathlib.Core.Path.{_≡_, refl, sym, ap, ap₂, subst, _∙_}
-use mathlib.Core.Bool.{Bool, true, false, _||_, or-assoc}
+use mathlib.Core.Bool.{Bool, true, false, cond, _||_, or-assoc}
 use mathlib.Core.List.{List, [], _∷_, _++_}
 use mathlib.Core.Logic.{_↔_, _≢_, ⊎-elim}
-use Prim.Native.Nat.{ℕ, zero, suc, _+_, _≤_, _<_, min}
+use Prim.Native.Nat.{ℕ, zero, suc, _+_, _-_, _≤_, _<_, min}
 use native.Mathlib.Numerals.{add-one}
 use native.Mathlib.Omega.{arith}
 use native.Mathlib.Decide.{ℕ-discrete}
@@ -11,7 +11,7 @@ use borrow.Author.Tests.{lt-ltb, le-ltb}
 use lib.Dec.{ltb}
 use lib.ListN.{length, getD, take, set, length-append, List·getD-append}
 use lib.Seq.{getD-at, take-suc-set, take-length, ext-getD}
-use Rattle.bits.specs.Bits.{num, some, sum, most, list}
+use Rattle.bits.specs.Bits.{num, some, first, sum, most, list}
 use Rattle.bits.proofs.TestLaws.{clash, false-when, lt-or-le, num-lt}
 
 -- ---- some
@@ -55,6 +55,52 @@ some-join m (suc n) f = let e : m + suc n ≡ suc (m + n) = omega arith in rw e 
 -- some index passes exactly where the fact that is tested holds of one
 pub some-iff : (n : ℕ) (f : ℕ → Bool) (A : ℕ → Type 0) → ((k : ℕ) → (f k ≡ true) ↔ A k) → (some n f ≡ true) ↔ ((k : ℕ) × (k < n) × A k)
 some-iff n f A g = (λ h. let (k, l, p) = some-out n f h in (k, l, g k .0 p), λ (k, l, x). some-in n f k l (g k .1 x))
+
+-- ---- first
+
+-- t is the first of n indices that passes f
+pub record IsFirst (n : ℕ) (f : ℕ → Bool) (t : ℕ) : Type 0 where
+  pub inside : t < n
+  pub passes : f t ≡ true
+  pub before : (k : ℕ) → k < t → f k ≡ false
+
+-- that of all indices but 0, where 0 does not pass
+first-later : (n : ℕ) (f : ℕ → Bool) (t : ℕ) → f 0 ≡ false → IsFirst n (λ k. f (suc k)) t → IsFirst (suc n) f (suc t)
+first-later n f t e h = record { inside = omega (arith, h .inside); passes = h .passes; before = go }
+  where
+    go : (k : ℕ) → k < suc t → f k ≡ false
+    go zero l = e
+    go (suc k) l = h .before k (omega arith)
+
+pub first-found : (n : ℕ) (f : ℕ → Bool) (k : ℕ) → k < n → f k ≡ true → IsFirst n f (first n f)
+unfolding first
+first-found zero f k l p = absurd (omega arith)
+first-found (suc n) f k l p = go (f 0) refl k l p (λ i. first-found n (λ k. f (suc k)) i)
+  where
+    go : (t : Bool) → f 0 ≡ t → (i : ℕ) → i < suc n → f i ≡ true → ((i : ℕ) → i < n → f (suc i) ≡ true → IsFirst n (λ k. f (suc k)) (first n (λ k. f (suc k))))
+        → IsFirst (suc n) f (cond t 0 (suc (first n (λ k. f (suc k)))))
+    go true e i l p r = record { inside = omega arith; passes = e; before = λ k h. absurd (omega arith) }
+    go false e zero l p r = clash p e
+    go false e (suc i) l p r = first-later n f _ e (r i (omega arith) p)
+
+pub first-is : (n : ℕ) (f : ℕ → Bool) (t : ℕ) → IsFirst n f t → first n f ≡ t
+unfolding first
+first-is zero f t h = absurd (omega (arith, h .inside))
+first-is (suc n) f zero h = rw (h .passes)
+first-is (suc n) f (suc t) h =
+    rw (h .before 0 (omega arith))
+    (ap suc (first-is n (λ k. f (suc k)) t (record { inside = omega (arith, h .inside); passes = h .passes; before = λ k l. h .before (suc k) (omega arith) })))
+
+-- the first of all indices, where it is among the first m; and where it is after them, and none of them passes
+pub first-in-front : (m n : ℕ) (g : ℕ → Bool) (t : ℕ) → IsFirst m g t → IsFirst (m + n) g t
+first-in-front m n g t h = record { inside = omega (arith, h .inside); passes = h .passes; before = h .before }
+
+pub first-behind : (m n : ℕ) (g : ℕ → Bool) (t : ℕ) → ((k : ℕ) → k < m → g k ≡ false) → IsFirst n (λ k. g (m + k)) t → IsFirst (m + n) g (m + t)
+first-behind m n g t none h = record {
+  inside = omega (arith, h .inside);
+  passes = h .passes;
+  before = λ k l. ⊎-elim (none k) (λ p. let e : m + (k - m) ≡ k = omega arith in sym (ap g e) ∙ h .before (k - m) (omega arith)) (lt-or-le k m);
+}
 
 -- ---- sum
 

@@ -4,11 +4,16 @@ use mathlib.Core.Bool.{true, false}
 use mathlib.Core.List.{[], _∷_}
 use Prim.Native.Nat.{_*_, _^_}
 use lib.Dec.{eqb, ltb}
-use Rattle.bits.specs.Bits.{some, sum, list, has, word, words, at, bytes, number, digits}
+use Rattle.bits.specs.Bits.{some, first, sum, list, has, word, words, at, bytes, number, digits}
 
 some-below : (some 4 (λ k. eqb k 3) ≡ true) × (some 3 (λ k. eqb k 3) ≡ false) × (some 0 (λ k. true) ≡ false)
 unfolding some
 some-below = (refl, refl, refl)
+
+-- of several the first, and the last alone; 0 where all pass; the bound where none does
+first-of-some : (first 5 (ltb 2) ≡ 3) × (first 5 (eqb 4) ≡ 4) × (first 5 (λ k. true) ≡ 0) × (first 5 (ltb 7) ≡ 5) × (first 0 (λ k. true) ≡ 0)
+unfolding first
+first-of-some = (refl, refl, refl, refl, refl)
 
 sum-below : (sum 4 (λ k. k * k) ≡ 14) × (sum 0 (λ k. 7) ≡ 0)
 unfolding sum

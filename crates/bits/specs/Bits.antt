@@ -1,7 +1,7 @@
 -- Bits, words, digits and bytes: the words that every other definition is said in. Bits, digits, bytes and elements are numbered from 0, the lowest
 -- or first of them. Every definition computes. Assumes nothing.
 use Prim.Native.Nat.{ℕ, zero, suc, _+_, _*_, _/_, _%_, _^_, _<_, max}
-use mathlib.Core.Bool.{Bool, true, false, _||_}
+use mathlib.Core.Bool.{Bool, true, false, cond, _||_}
 use mathlib.Core.List.{List, [], _∷_, _++_}
 use lib.ListN.{getD}
 use lib.Dec.{eqb}
@@ -12,6 +12,11 @@ use lib.Dec.{eqb}
 unfoldable pub some : ℕ → (ℕ → Bool) → Bool
 some zero f = false
 some (suc n) f = f n || some n f
+
+-- the first index that passes f, or n where none below n does
+unfoldable pub first : ℕ → (ℕ → Bool) → ℕ
+first zero f = 0
+first (suc n) f = cond (f 0) 0 (suc (first n (λ k. f (suc k))))
 
 -- f 0 + f 1 + .. , n of them
 unfoldable pub sum : ℕ → (ℕ → ℕ) → ℕ

@@ -75,8 +75,8 @@ few-short : {ns : List ℕ} {bss : List (List ℕ)} {text : List ℕ} (tag : ℕ
 few-short tag f (pointerWrite _ c m) = short _ (count _ (count _ (bytes _ (omega (arith, f 3)) (bytes _ (omega (arith, f 4)) none)))) (lit≤ tt) (lit≤ tt)
 few-short tag f (pointerRead _ o) = short _ (bytes _ (omega (arith, f 2)) none) (lit≤ tt) (lit≤ tt)
 few-short tag f (gridPlan _ c) = short _ (count _ (count _ (count _ (count _ (bytes _ (omega (arith, f 3)) none))))) (lit≤ tt) (lit≤ tt)
-few-short tag f (gridRead _ o) = short _ (words _ (omega (arith, f 2)) none) (lit≤ tt) (lit≤ tt)
-few-short tag f (gridStore _ c) = short _ (count _ (count _ (count _ (count _ (words _ (omega (arith, f 4)) none))))) (lit≤ tt) (lit≤ tt)
+few-short tag f (gridRead _ o) = short _ (count _ (words _ (omega (arith, f 2)) none)) (lit≤ tt) (lit≤ tt)
+few-short tag f (gridStore _ c) = short _ (count _ (count _ (count _ (count _ (count _ (words _ (omega (arith, f 4)) none)))))) (lit≤ tt) (lit≤ tt)
 
 few : (bs : List ℕ) (tag : ℕ) → Whole bs tag → (i : ℕ) → length (getD (buffersOf bs tag) i []) ≤ 1024
 few bs tag h i =
@@ -101,10 +101,10 @@ one-by-tag tag (gridPlan l _) (gridPlan m _) =
     let (a, c) = grid.one-plan _ _ _ _ _ _ _ (l .exactly) (m .exactly) in
     λ i. line (decimal (a i .number)) (counts (a i) ++ (bufferText 2 (c i) ∷ []))
 one-by-tag tag (gridRead l _) (gridRead m _) =
-    let (a, o) = grid.one-read _ _ _ _ _ _ _ _ _ _ (l .exactly) (m .exactly) in λ i. line (decimal (a i .number)) (bufferText 16 (o i) ∷ [])
+    let (a, o) = grid.one-read _ _ _ _ _ _ _ _ _ _ (l .exactly) (m .exactly) in λ i. line (decimal (a i .number)) (decimal (a i .index) ∷ bufferText 16 (o i) ∷ [])
 one-by-tag tag (gridStore l _) (gridStore m _) =
     let (a, c) = grid.one-store _ _ _ _ _ _ _ _ (l .exactly) (m .exactly) in
-    λ i. line (decimal (a i .number)) (counts (a i) ++ (bufferText 16 (c i) ∷ []))
+    λ i. line (decimal (a i .number)) (counts (a i) ++ (decimal (a i .index) ∷ bufferText 16 (c i) ∷ []))
 
 pub one-line : OneLine
 one-line bs text text′ l m = one-by-tag (getD bs 0 0) l m

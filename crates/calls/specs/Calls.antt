@@ -43,16 +43,16 @@ pub data LineBy : ℕ → List ℕ → List (List ℕ) → List ℕ → Type 0 w
       → length counters′ ≡ length counters
       → LineBy 3 (rows ∷ columns ∷ k ∷ []) (wanted ∷ mask ∷ values ∷ counters ∷ [])
       (line (decimal (answer .number)) (counts answer ++ (bufferText 2 counters′ ∷ [])))
-  gridRead : {rows columns k number : ℕ} {cells counters out out′ : List ℕ}
-      → grid.Read rows columns k cells counters out (record { number = number }) out′
+  gridRead : {rows columns k number index : ℕ} {cells counters out out′ : List ℕ}
+      → grid.Read rows columns k cells counters out (record { number = number; index = index }) out′
       → length out′ ≡ length out
       → LineBy 4 (rows ∷ columns ∷ k ∷ []) (cells ∷ counters ∷ out ∷ [])
-      (line (decimal number) (bufferText 16 out′ ∷ []))
+      (line (decimal number) (decimal index ∷ bufferText 16 out′ ∷ []))
   gridStore : {rows columns k : ℕ} {answer : Answer} {wanted mask values counters cells cells′ : List ℕ}
       → grid.Store (block rows columns wanted mask values) k counters cells answer cells′
       → length cells′ ≡ length cells
       → LineBy 5 (rows ∷ columns ∷ k ∷ []) (wanted ∷ mask ∷ values ∷ counters ∷ cells ∷ [])
-      (line (decimal (answer .number)) (counts answer ++ (bufferText 16 cells′ ∷ [])))
+      (line (decimal (answer .number)) (counts answer ++ (decimal (answer .index) ∷ bufferText 16 cells′ ∷ [])))
 
 -- the same of a call that stands at the front of the bytes, with its tag and whatever it is
 abbrev pub LineAt : List ℕ → ℕ → List ℕ → Type 0

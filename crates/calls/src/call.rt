@@ -108,8 +108,9 @@ fn grid_read(s: &[u8], out: &mut [u8], put: usize) -> usize
         &mut shown[..i],
     );
     let a = put_number(out, put, r.number);
-    let b = put_words(out, a, &shown[..i]);
-    put_end(out, b)
+    let b = put_count(out, a, r.index);
+    let d = put_words(out, b, &shown[..i]);
+    put_end(out, d)
 }
 
 fn grid_store(s: &[u8], out: &mut [u8], put: usize) -> usize
@@ -135,8 +136,9 @@ fn grid_store(s: &[u8], out: &mut [u8], put: usize) -> usize
         &mut cells[..i],
     );
     let a = put_answer(out, put, r);
-    let b = put_words(out, a, &cells[..i]);
-    put_end(out, b)
+    let b = put_count(out, a, r.index);
+    let e = put_words(out, b, &cells[..i]);
+    put_end(out, e)
 }
 
 // Makes a call with this tag, and puts its line.

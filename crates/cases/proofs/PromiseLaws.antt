@@ -12,7 +12,7 @@ use Rattle.pointer_promises.specs.Pointer.{active, held, encode, verdict}
 use Rattle.pointer_promises.specs.Refusals.{InRange, outOfRange}
 use Rattle.pointer_promises.proofs.FormedLaws.{active-is}
 use Rattle.pointer_promises.proofs.RefusalLaws.{range-iff}
-use Rattle.cases.specs.Lines.{Line, Call, metadata, pointerRead, pointerWrite, gridRead, gridPlan, gridStore, byNumber, countersIn, counted, uncounted, line}
+use Rattle.cases.specs.Lines.{Line, Call, metadata, pointerRead, pointerWrite, gridRead, gridPlan, gridStore, byNumber, countersIn, counted, uncounted, readRefused, storeRefused, line}
 use Rattle.cases.specs.Statements.{answered, Promised}
 
 -- an ending x with the number of its call is what the number says
@@ -52,37 +52,40 @@ promised-grid-read : (m n k : ℕ) (cells counters out : List ℕ) → Promised 
 unfolding line
 promised-grid-read m n k cells counters out answer out′ r =
     let e = r .exactly in
-    by-number (answer .number) _ _ _ (λ x. record { numbers = x ∷ []; buffers = out ∷ [] }) (e .number)
-    (λ z i. record { numbers = z i ∷ []; buffers = e .shown z i ∷ [] })
-    (λ z i. record { numbers = answer .number ∷ []; buffers = e .untouched (omega arith) i ∷ [] })
+    by-number (answer .number) _ _ _ (λ x. record { numbers = readRefused m n k counters x; buffers = out ∷ [] }) (e .number)
+    (λ z i. record { numbers = z i ∷ r .demands .names .none (λ f. omega (arith, z)) i ∷ []; buffers = e .shown z i ∷ [] })
+    (λ z i. record { numbers = answer .number ∷ e .indexIs i ∷ []; buffers = e .untouched (omega arith) i ∷ [] })
 
 -- the numbers of a plan or a store that is accepted with l levels, and of one that is refused
-all-counted : (b : Block) (l : ℕ) (a : Answer) → a .number ≡ 0 → a .levels ≡ l → a .faults ≡ faults (b .rows) (b .mask) → CountsKinds b a → answered a ≡ counted b l
-all-counted b l a z e f k = λ i. z i ∷ e i ∷ f i ∷ k .wrong i ∷ k .right i ∷ []
+all-counted : (b : Block) (l : ℕ) (a : Answer) → a .number ≡ 0 → a .levels ≡ l → a .faults ≡ faults (b .rows) (b .mask) → CountsKinds b a → a .index ≡ 0 → answered a ≡ counted b l
+all-counted b l a z e f k x = λ i. z i ∷ e i ∷ f i ∷ k .wrong i ∷ k .right i ∷ x i ∷ []
 
-none-counted : (a : Answer) → CountsNothing a → answered a ≡ uncounted (a .number)
-none-counted a c = λ i. a .number ∷ c .levels i ∷ c .faults i ∷ c .wrong i ∷ c .right i ∷ []
+none-counted : (a : Answer) (t : ℕ) → CountsNothing a → a .index ≡ t → answered a ≡ uncounted (a .number) t
+none-counted a t c x = λ i. a .number ∷ c .levels i ∷ c .faults i ∷ c .wrong i ∷ c .right i ∷ x i ∷ []
 
 promised-plan : (b : Block) (k : ℕ) (counters : List ℕ) → Promised (gridPlan b k counters) (line (gridPlan b k counters))
 unfolding line
 promised-plan b k counters answer counters′ w =
     let e = w .exactly in
-    by-number (answer .number) _ _ _ (λ x. record { numbers = uncounted x; buffers = counters ∷ [] }) (e .number)
+    by-number (answer .number) _ _ _ (λ x. record { numbers = uncounted x 0; buffers = counters ∷ [] }) (e .number)
     (λ z i. record {
-      numbers = all-counted b _ answer z (e .levelsAre z) (e .faultsAre z) (e .kindsAre z) i;
+      numbers = all-counted b _ answer z (e .levelsAre z) (e .faultsAre z) (e .kindsAre z) (e .indexIs) i;
       buffers = e .countersAre z i ∷ byNumber (z i) (countersIn b k (e .countersAre z i) ∷ []) [];
     })
     (λ z.
     let (c, u) = e .untouched (omega arith) in
-    λ i. record { numbers = none-counted answer c i; buffers = u i ∷ none (answer .number) (countersIn b k counters′ ∷ []) z i })
+    λ i. record { numbers = none-counted answer 0 c (e .indexIs) i; buffers = u i ∷ none (answer .number) (countersIn b k counters′ ∷ []) z i })
 
 promised-store : (b : Block) (k : ℕ) (counters cells : List ℕ) → Promised (gridStore b k counters cells) (line (gridStore b k counters cells))
 unfolding line
 promised-store b k counters cells answer cells′ w =
     let e = w .exactly in
-    by-number (answer .number) _ _ _ (λ x. record { numbers = uncounted x; buffers = cells ∷ [] }) (e .number)
-    (λ z i. record { numbers = all-counted b _ answer z (e .levelsAre z) (e .faultsAre z) (e .kindsAre z) i; buffers = e .cellsAre z i ∷ [] })
-    (λ z. let (c, u) = e .untouched (omega arith) in λ i. record { numbers = none-counted answer c i; buffers = u i ∷ [] })
+    by-number (answer .number) _ _ _ (λ x. record { numbers = storeRefused b k counters x; buffers = cells ∷ [] }) (e .number)
+    (λ z i. record {
+      numbers = all-counted b _ answer z (e .levelsAre z) (e .faultsAre z) (e .kindsAre z) (w .demands .names .none (λ f. omega (arith, z))) i;
+      buffers = e .cellsAre z i ∷ [];
+    })
+    (λ z. let (c, u) = e .untouched (omega arith) in λ i. record { numbers = none-counted answer _ c (e .indexIs) i; buffers = u i ∷ [] })
 
 -- so every call's line is promised
 pub promised : (c : Call) → Promised c (line c)

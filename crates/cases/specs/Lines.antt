@@ -9,10 +9,10 @@ use Rattle.rdis.specs.Block.{Block, faultyCells, faults}
 use Rattle.rdis.specs.Levels.{plan}
 use Rattle.rdis.specs.Cells.{stored, reading}
 use Rattle.rdis.specs.Packing.{width, inOrder, packed, unpacked, counter, rowCounter, columnCounter}
-use Rattle.grid_promises.specs.Calls.{readNumber, planNumber, storeNumber, used, rowsOf, columnsOf}
+use Rattle.grid_promises.specs.Calls.{readNumber, planNumber, storeNumber, used, rowsOf, columnsOf, badIndex}
 use Rattle.pointer_promises.specs.Pointer as pointer
 
--- a line: the number and the counts, and the buffers afterwards
+-- a line: the number and the other figures of the answer, and the buffers afterwards
 pub record Line : Type 0 where
   pub numbers : List ℕ
   pub buffers : List (List ℕ)
@@ -41,13 +41,20 @@ byNumber (suc n) accepted refused = refused
 abbrev pub countersIn : Block → ℕ → List ℕ → List ℕ
 countersIn b k bs = unpacked (width k) (b .rows + b .columns) bs
 
--- the numbers of an accepted plan or store of l levels: L, F, the wrong stuck cells and the right ones
+-- the numbers of an accepted plan or store of l levels: L, F, the wrong stuck cells and the right ones, and the index
 abbrev pub counted : Block → ℕ → List ℕ
-counted b l = 0 ∷ l ∷ faults (b .rows) (b .mask) ∷ faultyCells b true ∷ faultyCells b false ∷ []
+counted b l = 0 ∷ l ∷ faults (b .rows) (b .mask) ∷ faultyCells b true ∷ faultyCells b false ∷ 0 ∷ []
 
 -- and of a refused one
-abbrev pub uncounted : ℕ → List ℕ
-uncounted number = number ∷ 0 ∷ 0 ∷ 0 ∷ 0 ∷ []
+abbrev pub uncounted : ℕ → ℕ → List ℕ
+uncounted number index = number ∷ 0 ∷ 0 ∷ 0 ∷ 0 ∷ index ∷ []
+
+-- those of a refused read, and of a refused store, with this number
+abbrev pub readRefused : (m n k : ℕ) (counters : List ℕ) → ℕ → List ℕ
+readRefused m n k counters number = number ∷ badIndex k (m + n) counters number ∷ []
+
+abbrev pub storeRefused : Block → ℕ → (counters : List ℕ) → ℕ → List ℕ
+storeRefused b k counters number = uncounted number (badIndex k (b .rows + b .columns) counters number)
 
 -- where it is refused, the counts are 0 and the buffers as they were
 unfoldable pub line : Call → Line
@@ -69,8 +76,8 @@ line (pointerWrite n wanted mask values cells m) =
     (record { numbers = pointer.writeNumber n wanted mask values (length cells) m ∷ 0 ∷ 0 ∷ []; buffers = cells ∷ m ∷ [] })
 line (gridRead m n k cells counters out) =
     byNumber (readNumber m n k cells counters (length out))
-    (record { numbers = 0 ∷ []; buffers = reading m n (rowCounter (width k) counters) (columnCounter (width k) m counters) cells ∷ [] })
-    (record { numbers = readNumber m n k cells counters (length out) ∷ []; buffers = out ∷ [] })
+    (record { numbers = 0 ∷ 0 ∷ []; buffers = reading m n (rowCounter (width k) counters) (columnCounter (width k) m counters) cells ∷ [] })
+    (record { numbers = readRefused m n k counters (readNumber m n k cells counters (length out)); buffers = out ∷ [] })
 line (gridPlan b k counters) =
     byNumber (planNumber b k (length counters))
     (record {
@@ -79,11 +86,11 @@ line (gridPlan b k counters) =
           packed (width k) (inOrder (b .rows) (b .columns) (rowsOf (plan b k)) (columnsOf (plan b k)))
           ∷ countersIn b k (packed (width k) (inOrder (b .rows) (b .columns) (rowsOf (plan b k)) (columnsOf (plan b k)))) ∷ [];
     })
-    (record { numbers = uncounted (planNumber b k (length counters)); buffers = counters ∷ [] })
+    (record { numbers = uncounted (planNumber b k (length counters)) 0; buffers = counters ∷ [] })
 line (gridStore b k counters cells) =
     byNumber (storeNumber b k counters (length cells))
     (record {
       numbers = counted b (most (b .rows + b .columns) (counter (width k) counters));
       buffers = stored b (rowCounter (width k) counters) (columnCounter (width k) (b .rows) counters) ∷ [];
     })
-    (record { numbers = uncounted (storeNumber b k counters (length cells)); buffers = cells ∷ [] })
+    (record { numbers = storeRefused b k counters (storeNumber b k counters (length cells)); buffers = cells ∷ [] })

@@ -13,6 +13,7 @@ use Rattle.pointer_promises.specs.declared.WriteAnswer.{WriteAnswer}
 use Rattle.cases.specs.Lines.{Line, Call, metadata, pointerRead, pointerWrite, gridRead, gridPlan, gridStore, byNumber, countersIn, line}
 use Rattle.cases.specs.Table.{Row, table}
 use Rattle.cases.specs.Edges.{rowEdges, readEdges, planEdges, storeEdges}
+use Rattle.cases.specs.IndexEdges.{indexEdges}
 
 -- each of these calls comes to its line
 abbrev pub Computed : List Row → Type 0
@@ -22,11 +23,11 @@ abbrev pub EveryCase : Type 0
 EveryCase = Computed table
 
 abbrev pub EveryEdge : Type 0
-EveryEdge = Computed rowEdges × Computed readEdges × Computed planEdges × Computed storeEdges
+EveryEdge = Computed rowEdges × Computed readEdges × Computed planEdges × Computed storeEdges × Computed indexEdges
 
--- what a plan or a store answers: the number, and the counts
+-- what a plan or a store answers: the number, the counts and the index
 abbrev pub answered : gridAnswer.Answer → List ℕ
-answered a = a .number ∷ a .levels ∷ a .faults ∷ a .wrong ∷ a .right ∷ []
+answered a = a .number ∷ a .levels ∷ a .faults ∷ a .wrong ∷ a .right ∷ a .index ∷ []
 
 -- every answer, with the buffers at the end, that meets the promise of a call is this line
 abbrev pub Promised : Call → Line → Type 0
@@ -41,7 +42,8 @@ Promised (pointerWrite n wanted mask values cells m) l =
     (answer : WriteAnswer) (cells′ m′ : List ℕ) → pointer.Write n wanted mask values cells m answer cells′ m′
     → record { numbers = answer .number ∷ answer .active ∷ answer .new ∷ []; buffers = cells′ ∷ m′ ∷ [] } ≡ l
 Promised (gridRead m n k cells counters out) l =
-    (answer : gridReadAnswer.ReadAnswer) (out′ : List ℕ) → grid.Read m n k cells counters out answer out′ → record { numbers = answer .number ∷ []; buffers = out′ ∷ [] } ≡ l
+    (answer : gridReadAnswer.ReadAnswer) (out′ : List ℕ) → grid.Read m n k cells counters out answer out′
+    → record { numbers = answer .number ∷ answer .index ∷ []; buffers = out′ ∷ [] } ≡ l
 -- where it is accepted, the counters that the bytes hold come last
 Promised (gridPlan b k counters) l =
     (answer : gridAnswer.Answer) (counters′ : List ℕ) → grid.Plan b k counters answer counters′
@@ -56,4 +58,4 @@ Every [] = Unit {0}
 Every (r ∷ rs) = Promised (r .call) (r .expected) × Every rs
 
 abbrev pub EveryPromise : Type 0
-EveryPromise = Every table × Every rowEdges × Every readEdges × Every planEdges × Every storeEdges
+EveryPromise = Every table × Every rowEdges × Every readEdges × Every planEdges × Every storeEdges × Every indexEdges

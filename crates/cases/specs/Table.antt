@@ -1,5 +1,5 @@
--- The starred cases of document 01, in its order: a grid's as a plan and, where that is accepted, a store by its counters. Old cells, counters and outputs are
--- odd on purpose: a refusal has to leave them. Assumes nothing.
+-- The starred cases of document 01, in its order, and G10: a grid's as a plan and, where that is accepted, a store by its counters. Old cells, counters and
+-- outputs are odd on purpose: a refusal has to leave them. Assumes nothing.
 use Prim.Native.Nat.{ℕ}
 use mathlib.Core.Bool.{true, false}
 use mathlib.Core.List.{List, [], _∷_}
@@ -7,7 +7,7 @@ use lib.ListN.{replicate}
 use Rattle.rdis.specs.Block.{Block}
 use Rattle.grid_promises.specs.Calls.{block}
 use Rattle.pointer_promises.specs.Pointer.{entryOf}
-use Rattle.cases.specs.Lines.{Line, ones, Call, metadata, pointerRead, pointerWrite, gridPlan, gridStore}
+use Rattle.cases.specs.Lines.{Line, ones, Call, metadata, pointerRead, pointerWrite, gridRead, gridPlan, gridStore}
 
 -- a call, and the line that document 01 gives for it
 pub record Row : Type 0 where
@@ -49,15 +49,22 @@ storeSmall b k byte = gridStore b k (byte ∷ []) (7 ∷ 8 ∷ [])
 
 -- an accepted plan: L, F, the wrong and the right cells, the packed counters, and the counters of rows and then columns
 abbrev pub planned : (l f wrong right : ℕ) → List ℕ → List ℕ → Line
-planned l f wrong right bytes counters = record { numbers = 0 ∷ l ∷ f ∷ wrong ∷ right ∷ []; buffers = bytes ∷ counters ∷ [] }
+planned l f wrong right bytes counters = record { numbers = 0 ∷ l ∷ f ∷ wrong ∷ right ∷ 0 ∷ []; buffers = bytes ∷ counters ∷ [] }
 
 -- an accepted store: L, F, the wrong and the right cells, and what the cells hold
 abbrev pub stores : (l f wrong right : ℕ) → List ℕ → Line
-stores l f wrong right cells = record { numbers = 0 ∷ l ∷ f ∷ wrong ∷ right ∷ []; buffers = cells ∷ [] }
+stores l f wrong right cells = record { numbers = 0 ∷ l ∷ f ∷ wrong ∷ right ∷ 0 ∷ []; buffers = cells ∷ [] }
 
--- a refused one of either: the number, and the buffer as it was
+-- a refused one of either, by another number than 4: the number, and the buffer as it was
 abbrev pub refused : ℕ → List ℕ → Line
-refused number before = record { numbers = number ∷ 0 ∷ 0 ∷ 0 ∷ 0 ∷ []; buffers = before ∷ [] }
+refused number before = record { numbers = number ∷ 0 ∷ 0 ∷ 0 ∷ 0 ∷ 0 ∷ []; buffers = before ∷ [] }
+
+-- a store, and a read, that is refused by 4: the index of the first counter above K, and the buffer as it was
+abbrev pub storeNames : ℕ → List ℕ → Line
+storeNames index before = record { numbers = 4 ∷ 0 ∷ 0 ∷ 0 ∷ 0 ∷ index ∷ []; buffers = before ∷ [] }
+
+abbrev pub readNames : ℕ → List ℕ → Line
+readNames index before = record { numbers = 4 ∷ index ∷ []; buffers = before ∷ [] }
 
 -- ---- the table
 
@@ -110,4 +117,9 @@ table =
     -- G8: three alternating cells whose ends are right
     ∷ record { call = planSmall G8 1; expected = planned 1 3 1 2 (0x09 ∷ []) (1 ∷ 0 ∷ 0 ∷ 1 ∷ []) }
     ∷ record { call = storeSmall G8 1 0x09; expected = stores 1 3 1 2 (2 ∷ 0 ∷ []) }
+    -- G10: a 3 in row 0, and in column 1, of counters at K = 2; read, and stored by
+    ∷ record { call = gridRead 2 2 2 (3 ∷ 3 ∷ []) (0x57 ∷ []) (7 ∷ 8 ∷ []); expected = readNames 0 (7 ∷ 8 ∷ []) }
+    ∷ record { call = gridRead 2 2 2 (3 ∷ 3 ∷ []) (0xC0 ∷ []) (7 ∷ 8 ∷ []); expected = readNames 3 (7 ∷ 8 ∷ []) }
+    ∷ record { call = storeSmall G3 2 0x57; expected = storeNames 0 (7 ∷ 8 ∷ []) }
+    ∷ record { call = storeSmall G3 2 0xC0; expected = storeNames 3 (7 ∷ 8 ∷ []) }
     ∷ []

@@ -25,11 +25,13 @@ use Rattle.grid.specs.declared.levels.Taken.{Taken}
 use Rattle.grid.specs.Steps.{blockOf, PlanSized, Counts, Follows, Refuses, Accepts}
 use Rattle.grid.proofs.Returns.{stands, passes, mask-inside}
 
-refused-plan : (b : Block) (k : ℕ) (counters : List ℕ) (a : Answer) (x : ℕ) → (x ≡ 0 → ⊥) → x ≡ planNumber b k (length counters) → Refuses x a → Plan b k counters a counters
-refused-plan b k counters a x l e (n, c) =
+refused-plan : (b : Block) (k : ℕ) (counters : List ℕ) (a : Answer) (x : ℕ) → (x ≡ 0 → ⊥) → x ≡ planNumber b k (length counters) → Refuses x 0 a → Plan b k counters a counters
+refused-plan b k counters a x l e r =
+    let n = r .number in
     plan-demands b k counters a counters (record {
       number = n ∙ e;
-      untouched = λ _. (c, refl);
+      indexIs = r .index;
+      untouched = λ _. (r .counts, refl);
       countersAre = λ z. absurd (l (sym n ∙ z));
       levelsAre = λ z. absurd (l (sym n ∙ z));
       faultsAre = λ z. absurd (l (sym n ∙ z));
@@ -46,7 +48,7 @@ module _ (m n k : ℕ) (d mask values counters : List ℕ) (x : ℕ) (e : x ≡ 
   unfolding judged
   by-tests = e
 
-  pub plan-judged : (a : Answer) → (x ≡ 0 → ⊥) → Refuses x a → Plan b k counters a counters
+  pub plan-judged : (a : Answer) → (x ≡ 0 → ⊥) → Refuses x 0 a → Plan b k counters a counters
   unfolding planNumber
   plan-judged a h r = refused-plan b k counters a x h (by-tests ∙ stands (inRange m n k) (planSized b k (length counters)) _ (λ z. h (by-tests ∙ z))) r
 
@@ -90,12 +92,12 @@ module _ (n k : ℕ) (d mask values counters : List ℕ) (s : PlanSized n k d ma
   lengths-right : planSized own k (length counters) ≡ true
   lengths-right = plan-sized own k (length counters) .1 (record { dataWords = refl; maskWords = s .masks; valueWords = s .stuckAt; counterBytes = s .sizes })
 
-  pub plan-past : planPast own ≡ true → Refuses 3 a → Plan own k counters a counters
+  pub plan-past : planPast own ≡ true → Refuses 3 0 a → Plan own k counters a counters
   unfolding planNumber
   plan-past h r = refused-plan own k counters a 3 (λ z. omega arith) (rw (s .ranges, lengths-right, h)) r
 
   module _ (inside : planPast own ≡ false) (t : Taken) (h : (t .used ≤ k) × Follows t (plan own k)) where
-    pub plan-unmaskable : t .ended ≡ false → Refuses 7 a → Plan own k counters a counters
+    pub plan-unmaskable : t .ended ≡ false → Refuses 7 0 a → Plan own k counters a counters
     unfolding planNumber
     plan-unmaskable e r = refused-plan own k counters a 7 (λ z. omega arith) (rw (s .ranges, lengths-right, inside, lost t (plan own k) (h .1) e)) r
 
@@ -114,6 +116,7 @@ module _ (n k : ℕ) (d mask values counters : List ℕ) (s : PlanSized n k d ma
         ap₂ _++_ (list-ext (length d) (times (t .rows) (t .used)) (f .r) (λ i _. f .counts .rows i)) (list-ext n (times (t .columns) (t .used)) (f .c) (λ j _. f .counts .columns j)) in
         plan-demands own k counters a counters′ (record {
           number = g .number ∙ rw (s .ranges, lengths-right, inside, f .masks);
+          indexIs = g .index;
           untouched = λ l. absurd (omega (arith, g .number));
           countersAre = λ _. rw (f .masks) (p .bytes has-room ∙ ap (packed (width k)) counted);
           levelsAre = λ _. rw (f .masks) (g .levels ∙ f .counts .used);

@@ -3,6 +3,7 @@ use Prim.Native.Nat.{ℕ, _^_}
 use mathlib.Core.Path.{_≡_, refl}
 use mathlib.Core.Bool.{Bool, true, false, not, cond, _||_}
 use mathlib.Core.List.{List}
+use mathlib.Core.Logic.{_≢_}
 use native.Mathlib.Omega.{arith}
 use Rattle.bits.specs.Bits.{Below}
 use Rattle.bits.proofs.TestLaws.{clash}
@@ -22,6 +23,12 @@ pub passes : (r s : Bool) → cond {A = ℕ} (not r) 1 (cond s 0 2) ≡ 0 → (r
 passes true true h = (refl, refl)
 passes true false h = absurd (omega arith)
 passes false s h = absurd (omega arith)
+
+-- a refusal of numbers and lengths is not 4
+pub not-four : (r s : Bool) → cond {A = ℕ} (not r) 1 (cond s 0 2) ≢ 4
+not-four true true h = omega arith
+not-four true false h = omega arith
+not-four false s h = omega arith
 
 -- ---- words within the columns
 

@@ -20,16 +20,17 @@ use Rattle.grid_sets.proofs.SetLaws.{odd-flips, odd-past, filled-most}
 use Rattle.grid_counters.specs.Promises.{roomy, unpackNumber, Unpack}
 use Rattle.grid_counters.specs.declared.Counters.{Counters}
 use Rattle.grid_counters.proofs.PromiseLaws.{is-roomy}
-use Rattle.grid_promises.specs.Calls.{inRange, past, readSized, readNumber}
+use Rattle.grid_promises.specs.Calls.{inRange, past, readSized, readNumber, badIndex}
 use Rattle.grid_promises.specs.Refusals.{InRange, ReadLengths}
 use Rattle.grid_promises.proofs.RefusalLaws.{in-range, read-sized, within}
+use Rattle.grid_promises.proofs.IndexLaws.{no-index, index-is}
 use Rattle.grid_promises.proofs.ReadDemands.{read-demands}
 use Rattle.grid_patterns.specs.Promises.{invertedBy, Invert}
 use Rattle.grid_patterns.proofs.InvertLaws.{can-invert}
 use Rattle.grid_checks.specs.Numbers.{judged, readJudged}
 use Rattle.grid.specs.declared.shows.Shown.{Shown}
 use Rattle.grid.specs.Steps.{ShowSized, Shows}
-use Rattle.grid.proofs.Returns.{stands, passes}
+use Rattle.grid.proofs.Returns.{stands, passes, not-four}
 
 -- counters that are accepted have no spare bit that is 1, and none is above K
 pub accepts : (s a : Bool) → cond {A = ℕ} (not s) 3 (cond a 4 0) ≡ 0 → (s ≡ true) × (a ≡ false)
@@ -38,9 +39,10 @@ accepts true false e = (refl, refl)
 accepts false a e = absurd (omega arith)
 
 module _ (m n k : ℕ) (cells counters out : List ℕ) where
-  refused-show : (s : Shown) → s .levels ≡ 0 → (s .number ≡ 0 → ⊥) → s .number ≡ readNumber m n k cells counters (length out) → Shows m n k cells counters out s out
-  refused-show s w l e = record {
-    reads = read-demands m n k cells counters out (record { number = s .number }) out (record { number = e; untouched = λ _. refl; shown = λ z. absurd (l z) });
+  refused-show : (s : Shown) → s .levels ≡ 0 → s .index ≡ badIndex k (m + n) counters (s .number) → (s .number ≡ 0 → ⊥)
+      → s .number ≡ readNumber m n k cells counters (length out) → Shows m n k cells counters out s out
+  refused-show s w i l e = record {
+    reads = read-demands m n k cells counters out (record { number = s .number; index = s .index }) out (record { number = e; indexIs = i; untouched = λ _. refl; shown = λ z. absurd (l z) });
     uncounted = λ _. w;
     greatest = λ z. absurd (l z);
   }
@@ -52,10 +54,10 @@ module _ (m n k : ℕ) (cells counters out : List ℕ) where
     unfolding judged
     by-tests = e
 
-    pub show-judged : (s : Shown) → s .levels ≡ 0 → s .number ≡ x → (x ≡ 0 → ⊥) → Shows m n k cells counters out s out
+    pub show-judged : (s : Shown) → s .levels ≡ 0 → s .index ≡ 0 → s .number ≡ x → (x ≡ 0 → ⊥) → Shows m n k cells counters out s out
     unfolding readNumber
-    show-judged s w y h =
-        refused-show s w (λ z. h (sym y ∙ z)) (y ∙ by-tests ∙ stands (inRange m n k) (readSized m n k (length cells) (length counters) (length out)) _ (λ z. h (by-tests ∙ z)))
+    show-judged s w i y h =
+        refused-show s w (i ∙ sym (no-index k (m + n) counters (s .number) (λ z. not-four (inRange m n k) (readSized m n k (length cells) (length counters) (length out)) (sym by-tests ∙ sym y ∙ z)))) (λ z. h (sym y ∙ z)) (y ∙ by-tests ∙ stands (inRange m n k) (readSized m n k (length cells) (length counters) (length out)) _ (λ z. h (by-tests ∙ z)))
 
     -- numbers and lengths that are right let a function go on that knows the rows by the words alone; and what it promises is promised of the rows
     module _ (z : x ≡ 0) where
@@ -80,9 +82,10 @@ module _ (n k : ℕ) (cells counters out : List ℕ) (p : ShowSized n k cells co
   sizes : readSized (length cells) n k (length cells) (length counters) (length out) ≡ true
   sizes = read-sized (length cells) n k (length cells) (length counters) (length out) .1 (record { cellWords = refl; counterBytes = p .sizes; outWords = p .room })
 
-  pub show-past : (s : Shown) → s .levels ≡ 0 → s .number ≡ 3 → past n cells ≡ true → Shows (length cells) n k cells counters out s out
+  pub show-past : (s : Shown) → s .levels ≡ 0 → s .index ≡ 0 → s .number ≡ 3 → past n cells ≡ true → Shows (length cells) n k cells counters out s out
   unfolding readNumber
-  show-past s w e h = refused-show (length cells) n k cells counters out s w (λ z. omega (arith, e)) (e ∙ rw (p .ranges, sizes, h))
+  show-past s w i e h =
+      refused-show (length cells) n k cells counters out s w (i ∙ sym (no-index k (length cells + n) counters (s .number) (λ z. omega (arith, e)))) (λ z. omega (arith, e)) (e ∙ rw (p .ranges, sizes, h))
 
   -- there is room for the counters of a block in range
   room : roomy k (length cells) n (length counters) ≡ true
@@ -98,8 +101,9 @@ module _ (n k : ℕ) (cells counters out : List ℕ) (p : ShowSized n k cells co
     unfolding readNumber
     read-number = number-is ∙ rw (p .ranges, sizes, inside)
 
-    pub show-refused : (s : Shown) → s .levels ≡ 0 → s .number ≡ c .number → (c .number ≡ 0 → ⊥) → Shows (length cells) n k cells counters out s out
-    show-refused s w e h = refused-show (length cells) n k cells counters out s w (λ z. h (sym e ∙ z)) (e ∙ read-number)
+    pub show-refused : (s : Shown) → s .levels ≡ 0 → s .index ≡ c .index → s .number ≡ c .number → (c .number ≡ 0 → ⊥) → Shows (length cells) n k cells counters out s out
+    show-refused s w i e h =
+        refused-show (length cells) n k cells counters out s w (index-is k (length cells + n) counters (s .number) (s .index) (λ f. i ∙ u .names (sym e ∙ f)) (λ f. i ∙ u .namesNone (λ g. f (e ∙ g)))) (λ z. h (sym e ∙ z)) (e ∙ read-number)
 
     module _ (z : c .number ≡ 0) where
       low : (t : ℕ) → t < length cells + n → counter (width k) counters t ≤ k
@@ -135,11 +139,12 @@ module _ (n k : ℕ) (cells counters out : List ℕ) (p : ShowSized n k cells co
           ap₂ (λ x y. filled x y k) (u .rowSets room) (u .columnSets room)
           ∙ filled-most (length cells) n k (counter (width k) counters) (omega (arith, range .levels .1)) (omega (arith, low t l))
 
-      pub show-done : (s : Shown) (after : List ℕ) → s .number ≡ 0 → s .levels ≡ filled (c .rows) (c .columns) k → Invert (c .rows) (c .columns) k cells out after
+      pub show-done : (s : Shown) (after : List ℕ) → s .number ≡ 0 → s .index ≡ 0 → s .levels ≡ filled (c .rows) (c .columns) k → Invert (c .rows) (c .columns) k cells out after
           → Shows (length cells) n k cells counters out s after
-      show-done s after e l i = record {
-        reads = read-demands (length cells) n k cells counters out (record { number = s .number }) after (record {
+      show-done s after e x l i = record {
+        reads = read-demands (length cells) n k cells counters out (record { number = s .number; index = s .index }) after (record {
           number = e ∙ sym z ∙ read-number;
+          indexIs = x ∙ sym (no-index k (length cells + n) counters (s .number) (λ f. omega (arith, e)));
           untouched = λ h. absurd (omega (arith, e));
           shown = λ _. shows after i;
         });

@@ -17,23 +17,27 @@ use Rattle.rdis.specs.Block.{Block, bit, stuck}
 use Rattle.rdis.specs.Cells.{flips, reading, misread, misreads}
 use Rattle.rdis.specs.Packing.{width, rowCounter, columnCounter, above, spareClear}
 use Rattle.rdis.proofs.CellLaws.{length-reading, stored-inverted}
-use Rattle.grid_promises.specs.Calls.{inRange, past, readNumber, block, planPast, storeSized, storeNumber}
+use Rattle.grid_promises.specs.Calls.{inRange, past, readNumber, block, planPast, storeSized, storeNumber, badIndex}
 use Rattle.grid_promises.specs.Refusals.{StoreLengths}
 use Rattle.grid_promises.specs.Promises.{Store}
 use Rattle.grid_promises.specs.declared.Answer.{Answer}
 use Rattle.grid_promises.proofs.RefusalLaws.{in-range, read-sized, store-sized, within}
 use Rattle.grid_promises.proofs.StoreDemands.{store-demands}
+use Rattle.grid_promises.proofs.IndexLaws.{no-index}
 use Rattle.grid_checks.specs.Numbers.{judged, storeJudged}
 use Rattle.grid.specs.declared.shows.Shown.{Shown}
 use Rattle.grid.specs.Steps.{blockOf, Rows, StoreSized, Refuses, Accepts, Shows, anyDiffers}
-use Rattle.grid.proofs.Returns.{stands, passes, none-of, mask-inside}
+use Rattle.grid.proofs.Returns.{stands, passes, not-four, none-of, mask-inside}
 use Rattle.grid.proofs.ShowLaws.{accepts}
 
-refused-store : (b : Block) (k : ℕ) (counters cells : List ℕ) (a : Answer) (x : ℕ) → (x ≡ 0 → ⊥) → x ≡ storeNumber b k counters (length cells) → Refuses x a → Store b k counters cells a cells
-refused-store b k counters cells a x l e (n, c) =
+refused-store : (b : Block) (k : ℕ) (counters cells : List ℕ) (a : Answer) (x t : ℕ) → (x ≡ 0 → ⊥) → x ≡ storeNumber b k counters (length cells)
+    → t ≡ badIndex k (b .rows + b .columns) counters x → Refuses x t a → Store b k counters cells a cells
+refused-store b k counters cells a x t l e i r =
+    let n = r .number in
     store-demands b k counters cells a cells (record {
       number = n ∙ e;
-      untouched = λ _. (c, refl);
+      indexIs = r .index ∙ i ∙ ap (badIndex k (b .rows + b .columns) counters) (sym n);
+      untouched = λ _. (r .counts, refl);
       cellsAre = λ z. absurd (l (sym n ∙ z));
       levelsAre = λ z. absurd (l (sym n ∙ z));
       faultsAre = λ z. absurd (l (sym n ∙ z));
@@ -50,10 +54,11 @@ module _ (m n k : ℕ) (d mask values counters cells : List ℕ) (x : ℕ) (e : 
   unfolding judged
   by-tests = e
 
-  pub store-judged : (a : Answer) → (x ≡ 0 → ⊥) → Refuses x a → Store b k counters cells a cells
+  pub store-judged : (a : Answer) → (x ≡ 0 → ⊥) → Refuses x 0 a → Store b k counters cells a cells
   unfolding storeNumber
   store-judged a h r =
-      refused-store b k counters cells a x h (by-tests ∙ stands (inRange m n k) (storeSized b k (length counters) (length cells)) _ (λ z. h (by-tests ∙ z))) r
+      refused-store b k counters cells a x 0 h (by-tests ∙ stands (inRange m n k) (storeSized b k (length counters) (length cells)) _ (λ z. h (by-tests ∙ z)))
+      (sym (no-index k (m + n) counters x (λ z. not-four (inRange m n k) (storeSized b k (length counters) (length cells)) (sym by-tests ∙ z)))) r
 
   module _ (z : x ≡ 0) where
     right : (inRange m n k ≡ true) × (storeSized b k (length counters) (length cells) ≡ true)
@@ -137,9 +142,10 @@ module _ (n k : ℕ) (d mask values counters cells : List ℕ) (s : StoreSized n
       store-sized own k (length counters) (length cells) .1
       (record { planned = record { dataWords = refl; maskWords = p .masks; valueWords = p .stuckAt; counterBytes = p .sizes }; cellWords = s .room })
 
-  pub store-past : (a : Answer) → planPast own ≡ true → Refuses 3 a → Store own k counters cells a cells
+  pub store-past : (a : Answer) → planPast own ≡ true → Refuses 3 0 a → Store own k counters cells a cells
   unfolding storeNumber
-  store-past a h r = refused-store own k counters cells a 3 (λ z. omega arith) (rw (s .planned .ranges, lengths-right, h)) r
+  store-past a h r =
+      refused-store own k counters cells a 3 0 (λ z. omega arith) (rw (s .planned .ranges, lengths-right, h)) (sym (no-index k (length d + n) counters 3 (λ z. omega arith))) r
 
   -- the data is read by the counters
   module _ (inside : planPast own ≡ false) (apart apart′ : List ℕ) (l : length apart ≡ length d) (r : Shown) (i : Shows (length d) n k d counters apart r apart′) where
@@ -159,11 +165,12 @@ module _ (n k : ℕ) (d mask values counters cells : List ℕ) (s : StoreSized n
         let sizes = read-sized (length d) n k (length d) (length counters) (length apart) .1 (record { cellWords = refl; counterBytes = s .planned .sizes; outWords = l }) in
         i .reads .exactly .number ∙ rw (ranges, sizes, none-of (past n d) (past n mask) (past n values) inside .0)
 
-    pub store-refused : (a : Answer) → (r .number ≡ 0 → ⊥) → Refuses (r .number) a → Store own k counters cells a cells
+    pub store-refused : (a : Answer) → (r .number ≡ 0 → ⊥) → Refuses (r .number) (r .index) a → Store own k counters cells a cells
     unfolding storeNumber
     store-refused a h f =
-        refused-store own k counters cells a (r .number) h
-        (number-is ∙ rw (ranges, lengths-right, inside) (not-right (spareClear (width k) (length d + n) counters) (above k (length d + n) counters) _ (λ z. h (number-is ∙ z)))) f
+        refused-store own k counters cells a (r .number) (r .index) h
+        (number-is ∙ rw (ranges, lengths-right, inside) (not-right (spareClear (width k) (length d + n) counters) (above k (length d + n) counters) _ (λ z. h (number-is ∙ z))))
+        (i .reads .exactly .indexIs) f
 
     -- the counters are accepted, and what they show of the data is judged
     module _ (z : r .number ≡ 0) where
@@ -189,11 +196,12 @@ module _ (n k : ℕ) (d mask values counters cells : List ℕ) (s : StoreSized n
             e ∙ ap (λ x. anyDiffers x mask values) shown-is
             ∙ judged-is own rows columns (in-range (length d) n k .0 ranges .columns .1) (mask-inside n d mask values inside)
 
-        pub store-misread : (a : Answer) → wrong ≡ true → Refuses 13 a → Store own k counters cells a cells
+        pub store-misread : (a : Answer) → wrong ≡ true → Refuses 13 0 a → Store own k counters cells a cells
         unfolding storeNumber
         store-misread a h f =
             let right : misreads own rows columns ≡ true = sym judged-right ∙ h in
-            refused-store own k counters cells a 13 (λ z. omega arith) (rw (ranges, lengths-right, inside, right-counters .0, right-counters .1, right)) f
+            refused-store own k counters cells a 13 0 (λ z. omega arith) (rw (ranges, lengths-right, inside, right-counters .0, right-counters .1, right))
+            (sym (no-index k (length d + n) counters 13 (λ z. omega arith))) f
 
         pub store-done : (a : Answer) (cells′ : List ℕ) → wrong ≡ false → Accepts d mask values (r .levels) a
             → cells′ ≡ cond (eqb (length cells) (length apart′)) apart′ cells → Store own k counters cells a cells′
@@ -202,6 +210,7 @@ module _ (n k : ℕ) (d mask values counters cells : List ℕ) (s : StoreSized n
             let right : misreads own rows columns ≡ false = sym judged-right ∙ h in
             store-demands own k counters cells a cells′ (record {
               number = f .number ∙ rw (ranges, lengths-right, inside, right-counters .0, right-counters .1, right);
+              indexIs = f .index ∙ sym (no-index k (length d + n) counters (a .number) (λ z. omega (arith, f .number)));
               untouched = λ l. absurd (omega (arith, f .number));
               cellsAre = λ _.
                   g ∙ sym (as-long (length cells) (length apart′) apart′ cells (s .room ∙ sym as-many)) ∙ shown-is ∙ stored-inverted own rows columns right;

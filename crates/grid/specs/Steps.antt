@@ -66,13 +66,16 @@ pub record Planned (d mask values : List ℕ) (s : Sub) (w : Bool) (k : ℕ) (t 
 
 -- ---- the answers of a plan and a store
 
--- it refuses by the number x and counts nothing
-abbrev pub Refuses : ℕ → Answer → Type 0
-Refuses x a = (a .number ≡ x) × CountsNothing a
+-- it refuses by the number x, with the index t, and counts nothing
+pub record Refuses (x t : ℕ) (a : Answer) : Type 0 where
+  pub number : a .number ≡ x
+  pub index : a .index ≡ t
+  pub counts : CountsNothing a
 
 -- it accepts with l levels, and counts the ones in the mask's words and the cells of each kind, whatever number of columns holds the mask
 pub record Accepts (d mask values : List ℕ) (l : ℕ) (a : Answer) : Type 0 where
   pub number : a .number ≡ 0
+  pub index : a .index ≡ 0
   pub levels : a .levels ≡ l
   pub faultsAre : a .faults ≡ faults (length d) mask
   pub kindsAre : (n : ℕ) → Below (2 ^ n) mask → CountsKinds (blockOf n d mask values) a
@@ -81,7 +84,7 @@ pub record Accepts (d mask values : List ℕ) (l : ℕ) (a : Answer) : Type 0 wh
 
 -- what a read promises, and the greatest counter
 pub record Shows (m n k : ℕ) (cells counters out : List ℕ) (s : Shown) (after : List ℕ) : Type 0 where
-  pub reads : Read m n k cells counters out (record { number = s .number }) after
+  pub reads : Read m n k cells counters out (record { number = s .number; index = s .index }) after
   pub uncounted : (s .number ≡ 0 → ⊥) → s .levels ≡ 0
   pub greatest : s .number ≡ 0 → s .levels ≡ most (m + n) (counter (width k) counters)
 

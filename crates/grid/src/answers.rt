@@ -11,8 +11,8 @@ ghost use lib.ListN.{length, getD};
 ghost use Rattle.bits.specs.Bits.{word};
 ghost use Rattle.grid.specs.Steps.{Rows, Refuses, Accepts};
 
-pub fn refused(number: usize) -> Answer
-    ensures { λ r. ⌜ Refuses number r ⌝ }
+pub fn refused(number: usize, index: usize) -> Answer
+    ensures { λ r. ⌜ Refuses number index r ⌝ }
 {
     Answer {
         number,
@@ -20,6 +20,7 @@ pub fn refused(number: usize) -> Answer
         faults: 0,
         wrong: 0,
         right: 0,
+        index,
     }
 }
 
@@ -57,5 +58,6 @@ pub fn accepted(levels: usize, data: &[u64], mask: &[u64], values: &[u64]) -> An
         faults,
         wrong,
         right: faults - wrong,
+        index: 0,
     }
 }

@@ -32,7 +32,10 @@ pub fn read(
     ensures { λ r. ⌜ Read rows columns k (now (cells .entry)) (now (counters .entry)) (now (out .entry)) r (now (out .exit)) ⌝ }
 {
     let s = shows::show(rows, columns, k, cells, counters, out);
-    ReadAnswer { number: s.number }
+    ReadAnswer {
+        number: s.number,
+        index: s.index,
+    }
 }
 
 // Works out levels that mask every fault for the data, and fills the counters with how many of them took each line; or refuses. It needs no cells.
@@ -57,7 +60,7 @@ pub fn plan(
         counters.len(),
     );
     if number != ACCEPTED {
-        return refused(number);
+        return refused(number, 0);
     }
     plan_sized(columns, k, data, mask, values, counters)
 }
@@ -75,11 +78,11 @@ fn plan_sized(
     ensures { λ r. ⌜ Plan (block (length (now («data» .entry))) columns (now («data» .entry)) (now (mask .entry)) (now (values .entry))) k (now (counters .entry)) r (now (counters .exit)) ⌝ }
 {
     if !grid_checks::all_within(data, mask, values, columns) {
-        return refused(BIT_PAST_END);
+        return refused(BIT_PAST_END, 0);
     }
     let t = levels::plan(columns, k, data, mask, values);
     if !t.ended {
-        return refused(UNMASKABLE);
+        return refused(UNMASKABLE, 0);
     }
     // An array in a field is passed by a variable.
     let taken_rows = t.rows;
@@ -120,7 +123,7 @@ pub fn store(
         cells.len(),
     );
     if number != ACCEPTED {
-        return refused(number);
+        return refused(number, 0);
     }
     store_sized(columns, k, data, mask, values, counters, cells)
 }
@@ -139,7 +142,7 @@ fn store_sized(
     ensures { λ r. ⌜ Store (block (length (now («data» .entry))) columns (now («data» .entry)) (now (mask .entry)) (now (values .entry))) k (now (counters .entry)) (now (cells .entry)) r (now (cells .exit)) ⌝ }
 {
     if !grid_checks::all_within(data, mask, values, columns) {
-        return refused(BIT_PAST_END);
+        return refused(BIT_PAST_END, 0);
     }
     let n = data.len();
     let mut apart = [0u64; LINES];
@@ -173,10 +176,10 @@ fn store_by(
 {
     let s = shows::show(data.len(), columns, k, data, counters, apart);
     if s.number != ACCEPTED {
-        return refused(s.number);
+        return refused(s.number, s.index);
     }
     if stores::misreads(apart, mask, values) {
-        return refused(MISREAD);
+        return refused(MISREAD, 0);
     }
     // Where no stuck cell reads wrong, the inverted data has the stuck values.
     words::copy(apart, cells);

@@ -9,9 +9,10 @@ ghost use Rattle.bits.specs.Bits.{num};
 ghost use Rattle.grid_sets.specs.Sets.{filled};
 ghost use Rattle.grid.specs.Steps.{ShowSized, Shows};
 
-// 0 or the number of the refusal, and the greatest counter.
+// 0 or the number of the refusal, the index of a read's answer, and the greatest counter.
 pub struct Shown {
     pub number: usize,
+    pub index: usize,
     pub levels: usize,
 }
 
@@ -48,7 +49,11 @@ pub fn show(
 {
     let number = grid_checks::read_number(rows, columns, k, cells.len(), counters.len(), out.len());
     if number != ACCEPTED {
-        return Shown { number, levels: 0 };
+        return Shown {
+            number,
+            index: 0,
+            levels: 0,
+        };
     }
     show_sized(columns, k, cells, counters, out)
 }
@@ -61,6 +66,7 @@ fn show_sized(columns: usize, k: usize, cells: &[u64], counters: &[u8], out: &mu
     if !grid_checks::within(cells, columns) {
         return Shown {
             number: BIT_PAST_END,
+            index: 0,
             levels: 0,
         };
     }
@@ -68,6 +74,7 @@ fn show_sized(columns: usize, k: usize, cells: &[u64], counters: &[u8], out: &mu
     if c.number != ACCEPTED {
         return Shown {
             number: c.number,
+            index: c.index,
             levels: 0,
         };
     }
@@ -78,6 +85,7 @@ fn show_sized(columns: usize, k: usize, cells: &[u64], counters: &[u8], out: &mu
     grid_patterns::invert(cells, &row_sets, &column_sets, k, out);
     Shown {
         number: ACCEPTED,
+        index: 0,
         levels: depth(&row_sets, &column_sets, k),
     }
 }

@@ -3,6 +3,7 @@ use Prim.Native.Nat.{suc, _+_}
 use mathlib.Core.Path.{_≡_, refl, sym, ap, _∙_}
 use mathlib.Core.Bool.{Bool, true, false}
 use native.Mathlib.Omega.{arith}
+use native.Mathlib.Decide.{ℕ-discrete}
 use borrow.Author.Tests.{le-ltb}
 use lib.ListN.{length}
 use Rattle.bits.proofs.BoundLaws.{some-none}
@@ -32,6 +33,8 @@ reads-back k m n used rows columns before after few fits p =
     let (x, y) = counters-back (width k) m n r c (λ i _. omega (arith, times-few rows used i)) (λ j _. omega (arith, times-few columns used j)) in
     record {
       number = sym (rw (held, q .spare, none));
+      names = λ e. absurd (omega arith);
+      namesNone = λ _. refl;
       noRows = λ h. clash held h;
       noColumns = λ h. clash held h;
       rowSets = λ _. sets-ext m r (rowCounter (width k) after) (λ i l. sym (ap (λ bs. rowCounter (width k) bs i) is ∙ x i l));
@@ -47,7 +50,12 @@ one-unpack k m n bs c c′ p q =
     let same : c .number ≡ c′ .number = p .number ∙ sym (q .number) in
     let rows : c .rows ≡ c′ .rows = either (roomy k m n (length bs)) (λ h. p .rowSets h ∙ sym (q .rowSets h)) (λ h. p .noRows h ∙ sym (q .noRows h)) in
     let columns : c .columns ≡ c′ .columns = either (roomy k m n (length bs)) (λ h. p .columnSets h ∙ sym (q .columnSets h)) (λ h. p .noColumns h ∙ sym (q .noColumns h)) in
-    λ i. record { number = same i; rows = rows i; columns = columns i }
+    let index : c .index ≡ c′ .index =
+    elim (ℕ-discrete (c .number) 4) [
+      | yes e ↦ p .names e ∙ sym (q .names (sym same ∙ e))
+      | no h ↦ p .namesNone h ∙ sym (q .namesNone (λ e. h (same ∙ e)))
+    ] in
+    λ i. record { number = same i; index = index i; rows = rows i; columns = columns i }
 
 pub one-pack : OnePack
 one-pack k m n used rows columns before after after′ p q =

@@ -3,20 +3,20 @@ use Prim.Native.Nat.{ℕ, _+_, _^_, _<_, _≤_}
 use mathlib.Core.Path.{_≡_, refl, sym, _∙_}
 use mathlib.Core.Bool.{Bool, true, false, not, cond, _&&_}
 use mathlib.Core.List.{List}
-use mathlib.Core.Logic.{⊎-elim}
+use mathlib.Core.Logic.{_≢_, ⊎-elim}
 use native.Mathlib.Nat.{mod-lt, lt-of-lt-of-le}
 use native.Mathlib.Omega.{arith}
-use borrow.Author.Tests.{leb-true, ltb-true, eqb-true, eq-eqb, le-leb, lt-leb, lt-ltb, le-ltb}
+use borrow.Author.Tests.{leb-true, ltb-true, eqb-true, eq-eqb, ne-eqb, le-leb, lt-leb, lt-ltb, le-ltb}
 use lib.Dec.{eqb, leb, ltb}
 use lib.ListN.{length, getD, replicate}
 use lib.Pow.{pow-pos}
 use Rattle.bits.specs.Bits.{has, number, Below}
 use Rattle.bits.proofs.TestLaws.{clash, and-in, and-left, and-right, lt-or-le}
 use Rattle.bits.proofs.BoundLaws.{some-none, sum-num-le}
-use Rattle.rdis.specs.Packing.{width, bytesFor, inOrder, counter, rowCounter, columnCounter, spareClear, above}
+use Rattle.rdis.specs.Packing.{width, bytesFor, inOrder, counter, rowCounter, columnCounter, spareClear, above, firstAbove}
 use Rattle.rdis.proofs.PackingLaws.{in-order-below}
-use Rattle.grid_sets.specs.Sets.{setsOf, times, someLine}
-use Rattle.grid_sets.proofs.SetLaws.{some-line}
+use Rattle.grid_sets.specs.Sets.{setsOf, times, someLine, firstLine}
+use Rattle.grid_sets.proofs.SetLaws.{some-line, first-line}
 use Rattle.grid_counters.proofs.PackLaws.{bits-few}
 use Rattle.grid_counters.specs.Promises.{fit, roomy, unpackNumber, Unpack, packable}
 
@@ -64,9 +64,9 @@ is-roomy k m n bytes r =
 
 -- ---- from bytes to sets
 
-pub not-roomy : (k m n : ℕ) (bs : List ℕ) → roomy k m n (length bs) ≡ false → Unpack k m n bs (record { number = 2; rows = replicate 8 0; columns = replicate 8 0 })
+pub not-roomy : (k m n : ℕ) (bs : List ℕ) → roomy k m n (length bs) ≡ false → Unpack k m n bs (record { number = 2; index = 0; rows = replicate 8 0; columns = replicate 8 0 })
 unfolding unpackNumber
-not-roomy k m n bs h = record { number = rw h; noRows = λ _. refl; noColumns = λ _. refl; rowSets = λ e. clash e h; columnSets = λ e. clash e h }
+not-roomy k m n bs h = record { number = rw h; names = λ e. absurd (omega arith); namesNone = λ _. refl; noRows = λ _. refl; noColumns = λ _. refl; rowSets = λ e. clash e h; columnSets = λ e. clash e h }
 
 pub counter-few : (k : ℕ) (bs : List ℕ) (t : ℕ) → counter (width k) bs t < 4
 unfolding counter
@@ -81,21 +81,47 @@ above-sets k m n bs =
     (λ l. rw (le-ltb k 8 l) (sym (some-none (m + n) _ (λ t _. le-ltb k (counter (width k) bs t) (omega (arith, counter-few k bs t))))))
     (lt-or-le k 8)
 
+-- so k is less than there are sets
+above-few : (k m n : ℕ) (bs : List ℕ) → above k (m + n) bs ≡ true → k < 8
+above-few k m n bs h = ltb-true k 8 (and-left _ _ (above-sets k m n bs ∙ h))
+
 by-tests : (s a : Bool) → cond {A = ℕ} s (cond a 4 0) 3 ≡ cond (not s) 3 (cond a 4 0)
 by-tests true a = refl
 by-tests false a = refl
 
+-- refusal 4 is a counter above k
+refuses-four : (s a : Bool) → cond {A = ℕ} (not s) 3 (cond a 4 0) ≡ 4 → a ≡ true
+refuses-four true true e = refl
+refuses-four true false e = absurd (omega arith)
+refuses-four false a e = absurd (omega arith)
+
+-- with it the first line of the sets numbered k is the first counter above k, and with any other number there is no index
+index-named : (k m n : ℕ) (bs : List ℕ) (x : ℕ) → m ≤ 64 → n ≤ 64 → x ≡ 4 → above k (m + n) bs ≡ true
+    → cond (eqb x 4 && ltb k 8) (firstLine (setsOf m (rowCounter (width k) bs)) (setsOf n (columnCounter (width k) m bs)) m k) 0 ≡ firstAbove k (m + n) bs
+unfolding firstAbove above
+index-named k m n bs x lm ln e f =
+    let small : k < 8 = above-few k m n bs f in rw (eq-eqb x 4 e, lt-ltb k 8 small) (first-line m n k (counter (width k) bs) small lm ln f)
+
+index-unnamed : (k x y : ℕ) → x ≢ 4 → cond (eqb x 4 && ltb k 8) y 0 ≡ 0
+index-unnamed k x y h = rw (ne-eqb x 4 h)
+
 pub judged : (k m n : ℕ) (bs r c : List ℕ) → roomy k m n (length bs) ≡ true → r ≡ setsOf m (rowCounter (width k) bs) → c ≡ setsOf n (columnCounter (width k) m bs)
-    → (clear high : Bool) (x : ℕ) → clear ≡ spareClear (width k) (m + n) bs → high ≡ (ltb k 8 && someLine r c k) → x ≡ cond clear (cond high 4 0) 3
-    → Unpack k m n bs (record { number = x; rows = r; columns = c })
+    → (clear high : Bool) (x t : ℕ) → clear ≡ spareClear (width k) (m + n) bs → high ≡ (ltb k 8 && someLine r c k) → x ≡ cond clear (cond high 4 0) 3
+    → t ≡ cond (eqb x 4 && ltb k 8) (firstLine r c m k) 0 → Unpack k m n bs (record { number = x; index = t; rows = r; columns = c })
 unfolding unpackNumber
-judged k m n bs r c room er ec clear high x p q e = record {
-  number = e ∙ rw (p, q, er, ec, above-sets k m n bs, room) (by-tests (spareClear (width k) (m + n) bs) (above k (m + n) bs));
-  noRows = λ h. clash room h;
-  noColumns = λ h. clash room h;
-  rowSets = λ _. er;
-  columnSets = λ _. ec;
-}
+judged k m n bs r c room er ec clear high x t p q e i =
+    let tests : x ≡ cond (not (spareClear (width k) (m + n) bs)) 3 (cond (above k (m + n) bs) 4 0) =
+    e ∙ rw (p, q, er, ec, above-sets k m n bs) (by-tests (spareClear (width k) (m + n) bs) (above k (m + n) bs)) in
+    let few = has-room k m n (length bs) room in
+    record {
+      number = tests ∙ rw room;
+      names = λ f. i ∙ rw (er, ec) (index-named k m n bs x (few .rows) (few .columns) f (refuses-four (spareClear (width k) (m + n) bs) _ (sym tests ∙ f)));
+      namesNone = λ f. i ∙ index-unnamed k x _ f;
+      noRows = λ h. clash room h;
+      noColumns = λ h. clash room h;
+      rowSets = λ _. er;
+      columnSets = λ _. ec;
+    }
 
 -- ---- from sets to bytes
 

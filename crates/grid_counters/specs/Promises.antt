@@ -3,9 +3,10 @@ use Prim.Native.Nat.{ℕ, _+_, _^_, _≤_}
 use mathlib.Core.Path.{_≡_}
 use mathlib.Core.Bool.{Bool, true, false, not, cond, _&&_}
 use mathlib.Core.List.{List}
+use mathlib.Core.Logic.{_≢_}
 use lib.ListN.{length, replicate}
 use lib.Dec.{eqb, leb, ltb}
-use Rattle.rdis.specs.Packing.{width, bytesFor, inOrder, packed, rowCounter, columnCounter, above, spareClear}
+use Rattle.rdis.specs.Packing.{width, bytesFor, inOrder, packed, rowCounter, columnCounter, above, firstAbove, spareClear}
 use Rattle.grid_sets.specs.Sets.{setsOf, times}
 use Rattle.grid_counters.specs.declared.Counters.{Counters}
 
@@ -28,6 +29,9 @@ unpackNumber k m n bs = cond (not (roomy k m n (length bs))) 2 (cond (not (spare
 -- what a reading of bytes answers
 pub record Unpack (k m n : ℕ) (bs : List ℕ) (c : Counters) : Type 0 where
   pub number : c .number ≡ unpackNumber k m n bs
+  -- with refusal 4 the index of the first counter above K, and else 0
+  pub names : c .number ≡ 4 → c .index ≡ firstAbove k (m + n) bs
+  pub namesNone : c .number ≢ 4 → c .index ≡ 0
   -- bytes of a wrong length hold no counter
   pub noRows : roomy k m n (length bs) ≡ false → c .rows ≡ replicate 8 0
   pub noColumns : roomy k m n (length bs) ≡ false → c .columns ≡ replicate 8 0
@@ -53,7 +57,7 @@ pub record Pack (k m n used : ℕ) (rows columns before after : List ℕ) : Type
 abbrev pub ReadsBack : Type 0
 ReadsBack =
     (k m n used : ℕ) (rows columns before after : List ℕ) → used ≤ k → packable k m n used (length before) ≡ true → Pack k m n used rows columns before after
-    → Unpack k m n after (record { number = 0; rows = setsOf m (times rows used); columns = setsOf n (times columns used) })
+    → Unpack k m n after (record { number = 0; index = 0; rows = setsOf m (times rows used); columns = setsOf n (times columns used) })
 
 abbrev pub OneUnpack : Type 0
 OneUnpack = (k m n : ℕ) (bs : List ℕ) (c c′ : Counters) → Unpack k m n bs c → Unpack k m n bs c′ → c ≡ c′

@@ -17,9 +17,11 @@ ghost use Rattle.grid_counters.specs.Promises.{fit, roomy as isRoomy, pa
 // A block has at most so many counters: one for each of 64 rows and 64 columns.
 pub const COUNTERS: usize = 128;
 
-// What bytes hold: 0 or the number of the refusal, and the sets of the rows' counters and of the columns'. Set s has the lines whose counter is above s.
+// What bytes hold: 0 or the number of the refusal, with refusal 4 the index of the first counter above K, and the sets of the rows' counters and of the
+// columns'. Set s has the lines whose counter is above s.
 pub struct Counters {
     pub number: usize,
+    pub index: usize,
     pub rows: [u64; LEVELS],
     pub columns: [u64; LEVELS],
 }
@@ -61,6 +63,7 @@ pub fn unpack(k: usize, rows: usize, columns: usize, bytes: &[u8]) -> Counters
     if !roomy(k, rows, columns, bytes.len()) {
         return Counters {
             number: WRONG_LENGTH,
+            index: 0,
             rows: [0u64; LEVELS],
             columns: [0u64; LEVELS],
         };
@@ -74,8 +77,10 @@ pub fn unpack(k: usize, rows: usize, columns: usize, bytes: &[u8]) -> Counters
         packing::spare_clear(bytes, width, rows + columns),
         planes::above(&r, &c, k),
     );
+    let index = planes::index(number, &r, &c, k, rows);
     Counters {
         number,
+        index,
         rows: r,
         columns: c,
     }

@@ -27,6 +27,7 @@ use Rattle.grid_promises.specs.Theorems.{OneReadByDemands, OnePlanByDema
 use Rattle.grid_promises.specs.declared.ReadAnswer.{ReadAnswer}
 use Rattle.grid_promises.specs.declared.Answer.{Answer}
 use Rattle.grid_promises.proofs.RefusalLaws.{spare-iff, counter-held, held-is, read-lowest, plan-lowest, store-lowest}
+use Rattle.grid_promises.proofs.IndexLaws.{names-index}
 use Rattle.grid_promises.proofs.PlanDemands.{plan-mask, planned, plan-fits}
 use Rattle.grid_promises.proofs.StoreDemands.{store-range, store-mask}
 use Rattle.grid_promises.proofs.OneAnswer.{one-read, one-plan, one-store}
@@ -38,6 +39,7 @@ pub read-exactly : (m n k : ℕ) (cells counters out : List ℕ) (a : ReadAnswer
 unfolding reading flips bit
 read-exactly m n k cells counters out a after d = record {
   number = lowest-one (ReadRefused m n k cells counters (length out)) _ _ (d .lowest) (read-lowest m n k cells counters (length out));
+  indexIs = names-index k (m + n) counters (a .number) (a .index) (d .names);
   untouched = d .untouched;
   shown = λ z. is-words m n _ after (d .inside z .0) (λ i p. d .inside z .1 i)
       (λ i j p q. d .shows z i j _ _ p q (counter-held (width k) i counters) (counter-held (width k) (m + j) counters));
@@ -77,6 +79,7 @@ module _ (w m n : ℕ) (bs : List ℕ) (r c : ℕ → ℕ) (formed : WellFormed 
 pub plan-exactly : (b : Block) (k : ℕ) (counters : List ℕ) (a : Answer) (counters′ : List ℕ) → PlanDemands b k counters a counters′ → PlanExactly b k counters a counters′
 plan-exactly b k counters a counters′ d = record {
   number = lowest-one (PlanRefused b k (length counters)) _ _ (d .lowest) (plan-lowest b k (length counters));
+  indexIs = d .namesNone;
   untouched = d .untouched;
   countersAre = λ z.
       let w = width k in
@@ -112,6 +115,7 @@ pub store-exactly : (b : Block) (k : ℕ) (counters cells : List ℕ) (a : Answe
 unfolding stored holds flips bit
 store-exactly b k counters cells a cells′ d = record {
   number = lowest-one (StoreRefused b k counters (length cells)) _ _ (d .lowest) (store-lowest b k counters (length cells));
+  indexIs = names-index k (b .rows + b .columns) counters (a .number) (a .index) (d .names);
   untouched = d .untouched;
   cellsAre = λ z. is-words (b .rows) (b .columns) _ cells′ (d .inside z .0) (λ i p. d .inside z .1 i)
       (λ i j p q. cell-holds (stuck b i j) (bit (b .values) i j) _ (bit cells′ i j) (d .held z i j p q)

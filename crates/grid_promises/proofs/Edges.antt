@@ -3,12 +3,12 @@ use Prim.Native.Nat.{ℕ, _+_, _^_}
 use mathlib.Core.Path.{_≡_, refl}
 use mathlib.Core.Bool.{xor}
 use mathlib.Core.List.{List, [], _∷_}
-use Rattle.bits.specs.Bits.{some, list, has, word, number}
+use Rattle.bits.specs.Bits.{some, first, list, has, word, number}
 use Rattle.rdis.specs.Block.{bit, differs, faulty}
 use Rattle.rdis.specs.Levels.{whole, takes, taken, left, levels, plan}
 use Rattle.rdis.specs.Cells.{flips, misreads}
-use Rattle.rdis.specs.Packing.{width, bytesFor, counter, spareClear, above}
-use Rattle.grid_promises.specs.Calls.{inRange, countersSized, past, readNumber, block, planNumber, storeNumber}
+use Rattle.rdis.specs.Packing.{width, bytesFor, counter, spareClear, above, firstAbove}
+use Rattle.grid_promises.specs.Calls.{inRange, countersSized, past, readNumber, block, planNumber, storeNumber, badIndex}
 
 abbrev zeros : ℕ → List ℕ
 zeros n = list n (λ _. 0)
@@ -93,6 +93,11 @@ pub stores :
     ≡ (0 ∷ 3 ∷ 3 ∷ 3 ∷ []) ∷ (0 ∷ 3 ∷ 3 ∷ []) ∷ (0 ∷ 4 ∷ 4 ∷ 0 ∷ []) ∷ (0 ∷ 13 ∷ 13 ∷ []) ∷ (13 ∷ 0 ∷ 0 ∷ []) ∷ (1 ∷ 2 ∷ 3 ∷ 4 ∷ 13 ∷ []) ∷ []
 unfolding storeNumber inRange countersSized past above list some width bytesFor counter spareClear number bit has xor misreads flips
 stores = refl
+
+-- the index of counters of which row 1 and column 1 are above K, with each number that a call answers
+pub indices : list 14 (badIndex 2 4 (0xCC ∷ [])) ≡ 0 ∷ 0 ∷ 0 ∷ 0 ∷ 1 ∷ 0 ∷ 0 ∷ 0 ∷ 0 ∷ 0 ∷ 0 ∷ 0 ∷ 0 ∷ 0 ∷ []
+unfolding badIndex firstAbove first counter width number list
+indices = refl
 
 -- 63 and 64 columns with bit 63 set; 64 rows and 64 columns at K = 3
 pub widest : (readNumber 1 63 1 (2 ^ 63 ∷ []) (zeros 8) 1 ≡ 3) × (readNumber 1 64 1 (2 ^ 63 ∷ []) (zeros 9) 1 ≡ 0) × (readNumber 64 64 3 (zeros 64) (zeros 32) 64 ≡ 0)

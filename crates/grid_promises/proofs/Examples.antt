@@ -1,16 +1,18 @@
--- A plan and a store that are promised, computed: case G2 of document 01. Assumes nothing.
+-- A plan and a store that are promised, computed: case G2 of document 01; and a read and a store that are refused, with the index. Assumes nothing.
 use mathlib.Core.Path.{refl}
 use mathlib.Core.Bool.{xor}
 use mathlib.Core.List.{[], _∷_}
 use native.Mathlib.Omega.{arith}
 use lib.Count.{ones, onesIn}
-use Rattle.bits.specs.Bits.{some, sum, most, list, has, word, words, number, digits}
+use Rattle.bits.specs.Bits.{some, first, sum, most, list, has, word, words, number, digits}
 use Rattle.rdis.specs.Block.{Block, bit, differs, faulty, count, faults}
 use Rattle.rdis.specs.Levels.{whole, takes, taken, left, levels, plan}
 use Rattle.rdis.specs.Cells.{flips, holds, stored, misreads}
-use Rattle.rdis.specs.Packing.{width, bytesFor, packed, counter, spareClear, above}
-use Rattle.grid_promises.specs.Calls.{inRange, countersSized, past, block, planNumber, storeNumber}
-use Rattle.grid_promises.specs.Promises.{Plan, Store}
+use Rattle.rdis.specs.Packing.{width, bytesFor, packed, counter, spareClear, above, firstAbove}
+use Rattle.grid_promises.specs.Calls.{inRange, countersSized, past, block, readNumber, planNumber, storeNumber, badIndex}
+use Rattle.grid_promises.specs.Promises.{Read, Plan, Store}
+use Rattle.grid_promises.specs.declared.Answer.{Answer}
+use Rattle.grid_promises.proofs.ReadDemands.{read-demands}
 use Rattle.grid_promises.proofs.PlanDemands.{plan-demands}
 use Rattle.grid_promises.proofs.StoreDemands.{store-demands}
 
@@ -18,12 +20,36 @@ use Rattle.grid_promises.proofs.StoreDemands.{store-demands}
 abbrev pub G2 : Block
 G2 = block 1 1 (1 ∷ []) (1 ∷ []) (0 ∷ [])
 
-pub g2-plan : Plan G2 1 (0 ∷ []) (record { number = 0; levels = 1; faults = 1; wrong = 1; right = 0 }) (3 ∷ [])
+pub g2-plan : Plan G2 1 (0 ∷ []) (record { number = 0; levels = 1; faults = 1; wrong = 1; right = 0; index = 0 }) (3 ∷ [])
 unfolding planNumber inRange countersSized past plan levels taken left takes whole faulty differs bit has word some xor width bytesFor packed number digits list faults count sum ones onesIn
-g2-plan = plan-demands G2 1 (0 ∷ []) (record { number = 0; levels = 1; faults = 1; wrong = 1; right = 0 }) (3 ∷ [])
-    (record { number = refl; untouched = λ l. absurd (omega arith); countersAre = λ _. refl; levelsAre = λ _. refl; faultsAre = λ _. refl; kindsAre = λ _. record { wrong = refl; right = refl; sum = refl } })
+g2-plan = plan-demands G2 1 (0 ∷ []) (record { number = 0; levels = 1; faults = 1; wrong = 1; right = 0; index = 0 }) (3 ∷ [])
+    (record { number = refl; indexIs = refl; untouched = λ l. absurd (omega arith); countersAre = λ _. refl; levelsAre = λ _. refl; faultsAre = λ _. refl; kindsAre = λ _. record { wrong = refl; right = refl; sum = refl } })
 
-pub g2-store : Store G2 1 (3 ∷ []) (0 ∷ []) (record { number = 0; levels = 1; faults = 1; wrong = 1; right = 0 }) (0 ∷ [])
-unfolding storeNumber inRange countersSized past above spareClear counter width bytesFor number some bit differs faulty has word words list xor misreads flips stored holds most faults count sum ones onesIn
-g2-store = store-demands G2 1 (3 ∷ []) (0 ∷ []) (record { number = 0; levels = 1; faults = 1; wrong = 1; right = 0 }) (0 ∷ [])
-    (record { number = refl; untouched = λ l. absurd (omega arith); cellsAre = λ _. refl; levelsAre = λ _. refl; faultsAre = λ _. refl; kindsAre = λ _. record { wrong = refl; right = refl; sum = refl } })
+pub g2-store : Store G2 1 (3 ∷ []) (0 ∷ []) (record { number = 0; levels = 1; faults = 1; wrong = 1; right = 0; index = 0 }) (0 ∷ [])
+unfolding storeNumber badIndex inRange countersSized past above spareClear counter width bytesFor number some bit differs faulty has word words list xor misreads flips stored holds most faults count sum ones onesIn
+g2-store = store-demands G2 1 (3 ∷ []) (0 ∷ []) (record { number = 0; levels = 1; faults = 1; wrong = 1; right = 0; index = 0 }) (0 ∷ [])
+    (record { number = refl; indexIs = refl; untouched = λ l. absurd (omega arith); cellsAre = λ _. refl; levelsAre = λ _. refl; faultsAre = λ _. refl; kindsAre = λ _. record { wrong = refl; right = refl; sum = refl } })
+
+-- two by two at K = 2, as in G10, with a 3 for column 0, whose counter stands after those of two rows: a read, and a store of G3
+pub bad-read : Read 2 2 2 (3 ∷ 3 ∷ []) (0x30 ∷ []) (7 ∷ 8 ∷ []) (record { number = 4; index = 2 }) (7 ∷ 8 ∷ [])
+unfolding readNumber badIndex firstAbove first inRange countersSized past above spareClear counter width bytesFor number some
+bad-read = read-demands 2 2 2 (3 ∷ 3 ∷ []) (0x30 ∷ []) (7 ∷ 8 ∷ []) (record { number = 4; index = 2 }) (7 ∷ 8 ∷ [])
+    (record { number = refl; indexIs = refl; untouched = λ _. refl; shown = λ z. absurd (omega arith) })
+
+abbrev pub G3 : Block
+G3 = block 2 2 (0 ∷ 0 ∷ []) (3 ∷ 2 ∷ []) (1 ∷ 2 ∷ [])
+
+abbrev named : Answer
+named = record { number = 4; levels = 0; faults = 0; wrong = 0; right = 0; index = 2 }
+
+pub bad-store : Store G3 2 (0x30 ∷ []) (7 ∷ 8 ∷ []) named (7 ∷ 8 ∷ [])
+unfolding storeNumber badIndex firstAbove first inRange countersSized past above spareClear counter width bytesFor number some
+bad-store = store-demands G3 2 (0x30 ∷ []) (7 ∷ 8 ∷ []) named (7 ∷ 8 ∷ []) (record {
+  number = refl;
+  indexIs = refl;
+  untouched = λ _. (record { levels = refl; faults = refl; wrong = refl; right = refl }, refl);
+  cellsAre = λ z. absurd (omega arith);
+  levelsAre = λ z. absurd (omega arith);
+  faultsAre = λ z. absurd (omega arith);
+  kindsAre = λ z. absurd (omega arith);
+})

@@ -7,3 +7,4 @@ pub mod OneAnswer
 pub mod ByDemands
 pub mod PlanThenStore
 pub mod RefusalLaws
+pub mod IndexLaws

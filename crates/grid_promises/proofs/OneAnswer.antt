@@ -1,5 +1,5 @@
 -- No second answer is exact; and what does not count: an output and old buffers but for their lengths, and value bits at sound cells. Assumes nothing.
-use Prim.Native.Nat.{ℕ, _<_}
+use Prim.Native.Nat.{ℕ, _+_, _<_}
 use mathlib.Core.Path.{_≡_, refl, sym, ap, _∙_}
 use mathlib.Core.Bool.{Bool, true, false}
 use mathlib.Core.List.{List}
@@ -11,7 +11,7 @@ use Rattle.rdis.specs.Block.{Block, faultyCells}
 use Rattle.rdis.specs.Packing.{width, inOrder, packed, rowCounter, columnCounter}
 use Rattle.rdis.specs.Theorems.{withValues, SameWrite}
 use Rattle.rdis.proofs.SoundLaws.{sound-ignored}
-use Rattle.grid_promises.specs.Calls.{past, readNumber, planNumber, storeNumber, used, rowsOf, columnsOf}
+use Rattle.grid_promises.specs.Calls.{past, readNumber, planNumber, storeNumber, used, rowsOf, columnsOf, badIndex}
 use Rattle.grid_promises.specs.Demands.{CountsNothing, Untouched, CountsKinds}
 use Rattle.grid_promises.specs.Promises.{ReadExactly, PlanExactly, StoreExactly}
 use Rattle.grid_promises.specs.Theorems.{OneRead, OnePlan, OneStore, OutputMeasured, OldCountersMeasured, OldCellsMeasured, SameWhereStuck, PlanIgnoresSound, StoreIgnoresSound}
@@ -29,7 +29,8 @@ same-reads : (m n k : ℕ) (cells counters out out′ : List ℕ) (a a′ : Read
     → length out ≡ length out′ → ReadExactly m n k cells counters out a x → ReadExactly m n k cells counters out′ a′ x′ → (a ≡ a′) × (a .number ≡ 0 → x ≡ x′)
 same-reads m n k cells counters out out′ a a′ x x′ l e f =
     let same : a .number ≡ a′ .number = e .number ∙ ap (readNumber m n k cells counters) l ∙ sym (f .number) in
-    (λ i. record { number = same i }, λ z. e .shown z ∙ sym (f .shown (sym same ∙ z)))
+    let index : a .index ≡ a′ .index = e .indexIs ∙ ap (badIndex k (m + n) counters) same ∙ sym (f .indexIs) in
+    (λ i. record { number = same i; index = index i }, λ z. e .shown z ∙ sym (f .shown (sym same ∙ z)))
 
 pub output-measured : OutputMeasured
 output-measured m n k cells counters out out′ a a′ x x′ l e f = same-reads m n k cells counters out out′ a a′ x x′ l (e .exactly) (f .exactly)
@@ -47,8 +48,8 @@ pub record SameCounts (a a′ : Answer) : Type 0 where
   pub wrong : a .wrong ≡ a′ .wrong
   pub right : a .right ≡ a′ .right
 
-pub same-answer : (a a′ : Answer) → a .number ≡ a′ .number → SameCounts a a′ → a ≡ a′
-same-answer a a′ n c = λ i. record { number = n i; levels = c .levels i; faults = c .faults i; wrong = c .wrong i; right = c .right i }
+pub same-answer : (a a′ : Answer) → a .number ≡ a′ .number → a .index ≡ a′ .index → SameCounts a a′ → a ≡ a′
+same-answer a a′ n x c = λ i. record { number = n i; levels = c .levels i; faults = c .faults i; wrong = c .wrong i; right = c .right i; index = x i }
 
 -- those of two blocks with as many cells of each kind
 pub same-counts : (b d : Block) (a a′ : Answer) → ((w : Bool) → faultyCells b w ≡ faultyCells d w) → a .levels ≡ a′ .levels → a .faults ≡ a′ .faults
@@ -60,10 +61,10 @@ no-counts : (a a′ : Answer) → CountsNothing a → CountsNothing a′ → Sam
 no-counts a a′ c d =
     record { levels = c .levels ∙ sym (d .levels); faults = c .faults ∙ sym (d .faults); wrong = c .wrong ∙ sym (d .wrong); right = c .right ∙ sym (d .right) }
 
-module _ (a a′ : Answer) (old old₀ x x′ : List ℕ) (same : a .number ≡ a′ .number) (u : Untouched a old x) (u′ : Untouched a′ old₀ x′)
+module _ (a a′ : Answer) (old old₀ x x′ : List ℕ) (same : a .number ≡ a′ .number) (index : a .index ≡ a′ .index) (u : Untouched a old x) (u′ : Untouched a′ old₀ x′)
     (accepted : a .number ≡ 0 → SameCounts a a′ × (x ≡ x′)) where
   one-answer : a ≡ a′
-  one-answer = same-answer a a′ same (either-way (a .number) (λ l. no-counts a a′ (u l .0) (u′ (rw (← same) l) .0)) (λ z. accepted z .0))
+  one-answer = same-answer a a′ same index (either-way (a .number) (λ l. no-counts a a′ (u l .0) (u′ (rw (← same) l) .0)) (λ z. accepted z .0))
 
   same-measured : (a ≡ a′) × (a .number ≡ 0 → x ≡ x′)
   same-measured = (one-answer, λ z. accepted z .1)
@@ -90,6 +91,9 @@ module _ (b : Block) (v : List ℕ) (k : ℕ) (counters counters₀ : List ℕ) 
   plan-number : a .number ≡ a′ .number
   plan-number = e .number ∙ numbers ∙ sym (f .number)
 
+  plan-index : a .index ≡ a′ .index
+  plan-index = e .indexIs ∙ sym (f .indexIs)
+
   plan-accepted : a .number ≡ 0 → SameCounts a a′ × (x ≡ x′)
   plan-accepted z =
       let z′ : a′ .number ≡ 0 = sym plan-number ∙ z in
@@ -102,13 +106,15 @@ pub old-counters-measured : OldCountersMeasured
 old-counters-measured b k counters counters₀ a a′ x x′ l e f =
     let numbers : planNumber b k (length counters) ≡ planNumber b k (length counters₀) = ap (planNumber b k) l in
     let number = plan-number b (b .values) k counters counters₀ a a′ x x′ numbers (itself b) (e .exactly) (f .exactly) in
-    same-measured a a′ counters counters₀ x x′ number (e .exactly .untouched) (f .exactly .untouched)
+    let index = plan-index b (b .values) k counters counters₀ a a′ x x′ numbers (itself b) (e .exactly) (f .exactly) in
+    same-measured a a′ counters counters₀ x x′ number index (e .exactly .untouched) (f .exactly .untouched)
     (plan-accepted b (b .values) k counters counters₀ a a′ x x′ numbers (itself b) (e .exactly) (f .exactly))
 
 plans-end : (b : Block) (v : List ℕ) (k : ℕ) (counters : List ℕ) (a a′ : Answer) (x x′ : List ℕ) → planNumber b k (length counters) ≡ planNumber (withValues b v) k (length counters)
     → SameWrite b (withValues b v) → PlanExactly b k counters a x → PlanExactly (withValues b v) k counters a′ x′ → (a ≡ a′) × (x ≡ x′)
 plans-end b v k counters a a′ x x′ numbers same e f =
-    same-end a a′ counters counters x x′ (plan-number b v k counters counters a a′ x x′ numbers same e f) (e .untouched) (f .untouched)
+    same-end a a′ counters counters x x′ (plan-number b v k counters counters a a′ x x′ numbers same e f)
+    (plan-index b v k counters counters a a′ x x′ numbers same e f) (e .untouched) (f .untouched)
     (plan-accepted b v k counters counters a a′ x x′ numbers same e f) refl
 
 pub one-plan : OnePlan
@@ -129,6 +135,9 @@ module _ (b : Block) (v : List ℕ) (k : ℕ) (counters cells cells₀ : List �
   store-number : a .number ≡ a′ .number
   store-number = e .number ∙ numbers ∙ sym (f .number)
 
+  store-index : a .index ≡ a′ .index
+  store-index = e .indexIs ∙ ap (badIndex k (b .rows + b .columns) counters) store-number ∙ sym (f .indexIs)
+
   store-accepted : a .number ≡ 0 → SameCounts a a′ × (x ≡ x′)
   store-accepted z =
       let z′ : a′ .number ≡ 0 = sym store-number ∙ z in (
@@ -140,14 +149,16 @@ pub old-cells-measured : OldCellsMeasured
 old-cells-measured b k counters cells cells₀ a a′ x x′ l e f =
     let numbers : storeNumber b k counters (length cells) ≡ storeNumber b k counters (length cells₀) = ap (storeNumber b k counters) l in
     let number = store-number b (b .values) k counters cells cells₀ a a′ x x′ numbers (itself b) (e .exactly) (f .exactly) in
-    same-measured a a′ cells cells₀ x x′ number (e .exactly .untouched) (f .exactly .untouched)
+    let index = store-index b (b .values) k counters cells cells₀ a a′ x x′ numbers (itself b) (e .exactly) (f .exactly) in
+    same-measured a a′ cells cells₀ x x′ number index (e .exactly .untouched) (f .exactly .untouched)
     (store-accepted b (b .values) k counters cells cells₀ a a′ x x′ numbers (itself b) (e .exactly) (f .exactly))
 
 stores-end : (b : Block) (v : List ℕ) (k : ℕ) (counters cells : List ℕ) (a a′ : Answer) (x x′ : List ℕ)
     → storeNumber b k counters (length cells) ≡ storeNumber (withValues b v) k counters (length cells)
     → SameWrite b (withValues b v) → StoreExactly b k counters cells a x → StoreExactly (withValues b v) k counters cells a′ x′ → (a ≡ a′) × (x ≡ x′)
 stores-end b v k counters cells a a′ x x′ numbers same e f =
-    same-end a a′ cells cells x x′ (store-number b v k counters cells cells a a′ x x′ numbers same e f) (e .untouched) (f .untouched)
+    same-end a a′ cells cells x x′ (store-number b v k counters cells cells a a′ x x′ numbers same e f)
+    (store-index b v k counters cells cells a a′ x x′ numbers same e f) (e .untouched) (f .untouched)
     (store-accepted b v k counters cells cells a a′ x x′ numbers same e f) refl
 
 pub one-store : OneStore

@@ -107,6 +107,7 @@ module _ (b : Block) (k : ℕ) (counters : List ℕ) (a : Answer) (counters′ :
     exactly = e;
     demands = record {
       lowest = lowest-refusal;
+      namesNone = e .indexIs;
       untouched = e .untouched;
       unmaskable = seven;
       deepest = λ z. subst (LevelsUsed b k) (sym (e .levelsAre z)) (levels-by-chain b k _ _ _ (masks z));

@@ -104,12 +104,12 @@ module _ (b : Block) (k : ℕ) (old counters cells cells′ : List ℕ) (p s : A
 
   kept : PlanKept b k counters p s cells′
   kept = record {
-    accepted = same-answer s p (accepts ∙ sym z)
+    accepted = same-answer s p (accepts ∙ sym z) (e .names .none (λ q. absurd (omega (arith, accepts))) ∙ sym (d .namesNone))
         (same-counts b b s p (λ w. refl) same-levels (e .everyFault accepts ∙ sym (d .everyFault z)) (e .kinds accepts) (d .kinds z));
     held = e .held accepts;
     readsBack = λ out after r q f.
         let back = store-demands b k counters cells s cells′ (store-exactly b k counters cells s cells′ e) .readsBack accepts out q in
-        let (x, y) = one-read-by-demands (b .rows) (b .columns) k cells′ counters out r (record { number = 0 }) after (b .data·) f (back .demands) in
+        let (x, y) = one-read-by-demands (b .rows) (b .columns) k cells′ counters out r (record { number = 0; index = 0 }) after (b .data·) f (back .demands) in
         (ap (λ a. a .number) x, y);
   }
 

@@ -1,25 +1,34 @@
 -- What is demanded of a read holds of every one that ends exactly as it should. Assumes nothing.
 use Prim.Native.Nat.{ℕ, _+_}
-use mathlib.Core.Path.{sym, ap, ap₂, subst, _∙_}
+use mathlib.Core.Path.{_≡_, sym, ap, ap₂, subst, _∙_}
 use mathlib.Core.List.{List}
+use native.Mathlib.Omega.{arith}
 use lib.ListN.{length}
 use Rattle.bits.specs.Lowest.{Lowest}
 use Rattle.bits.proofs.ByteLaws.{length-words, words-below, has-words}
 use Rattle.rdis.specs.Block.{Sized, bit}
 use Rattle.rdis.specs.Cells.{flips, reading}
 use Rattle.rdis.specs.Packing.{width}
+use Rattle.grid_promises.specs.Calls.{readNumber}
 use Rattle.grid_promises.specs.Refusals.{inverted}
 use Rattle.grid_promises.specs.Refusals.{ReadRefused}
 use Rattle.grid_promises.specs.Promises.{ReadExactly, Read}
 use Rattle.grid_promises.specs.declared.ReadAnswer.{ReadAnswer}
-use Rattle.grid_promises.proofs.RefusalLaws.{held-is, read-lowest}
+use Rattle.grid_promises.proofs.RefusalLaws.{held-is, read-4, read-lowest}
+use Rattle.grid_promises.proofs.IndexLaws.{index-names}
+
+lowest-read : (m n k : ℕ) (cells counters out : List ℕ) (x : ℕ) → x ≡ readNumber m n k cells counters (length out) → Lowest (ReadRefused m n k cells counters (length out)) x
+lowest-read m n k cells counters out x e = subst (Lowest (ReadRefused m n k cells counters (length out))) (sym e) (read-lowest m n k cells counters (length out))
 
 pub read-demands : (m n k : ℕ) (cells counters out : List ℕ) (a : ReadAnswer) (after : List ℕ) → ReadExactly m n k cells counters out a after → Read m n k cells counters out a after
 unfolding reading bit flips
 read-demands m n k cells counters out a after e = record {
   exactly = e;
   demands = record {
-    lowest = subst (Lowest (ReadRefused m n k cells counters (length out))) (sym (e .number)) (read-lowest m n k cells counters (length out));
+    lowest = lowest-read m n k cells counters out (a .number) (e .number);
+    names = index-names k (m + n) counters (a .number) (a .index)
+        (λ z. read-4 m n k cells counters (length out) (subst (ReadRefused m n k cells counters (length out)) z (lowest-read m n k cells counters out (a .number) (e .number) .applies (omega arith))))
+        (e .indexIs);
     untouched = e .untouched;
     inside = λ z. subst (Sized m n) (sym (e .shown z)) (length-words m n _, words-below m n _);
     shows = λ z i j x y p q u v.

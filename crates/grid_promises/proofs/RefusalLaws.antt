@@ -164,7 +164,7 @@ module _ (m n k : ℕ) (cells counters : List ℕ) (out : ℕ) where
   read-3 (pastRead h) = inl h
   read-3 (spareRead h) = inr h
 
-  read-4 : ReadRefused m n k cells counters out 4 → Above k (m + n) counters
+  pub read-4 : ReadRefused m n k cells counters out 4 → Above k (m + n) counters
   read-4 (aboveRead h) = h
 
   read-some : (y : ℕ) → ReadRefused m n k cells counters out y → (1 ≤ y) × (y ≤ 4)
@@ -244,7 +244,7 @@ module _ (b : Block) (k : ℕ) (counters : List ℕ) (cells : ℕ) where
   store-3 (pastStore h) = inl h
   store-3 (spareStore h) = inr h
 
-  store-4 : StoreRefused b k counters cells 4 → Above k (b .rows + b .columns) counters
+  pub store-4 : StoreRefused b k counters cells 4 → Above k (b .rows + b .columns) counters
   store-4 (aboveStore h) = h
 
   store-some : (y : ℕ) → StoreRefused b k counters cells y → 1 ≤ y

@@ -1,6 +1,6 @@
 -- What is demanded of a store holds of every one that ends exactly as it should. Assumes nothing.
 use Prim.Native.Nat.{ℕ, _+_, _^_, _<_}
-use mathlib.Core.Path.{_≡_, sym, ap, ap₂, subst, _∙_}
+use mathlib.Core.Path.{_≡_, refl, sym, ap, ap₂, subst, _∙_}
 use mathlib.Core.Bool.{false}
 use mathlib.Core.List.{List}
 use mathlib.Core.Logic.{_↔_, inl, inr}
@@ -17,13 +17,15 @@ use Rattle.rdis.specs.Cells.{flips, stored, reading}
 use Rattle.rdis.specs.Packing.{width, counter, rowCounter, columnCounter}
 use Rattle.rdis.proofs.CellLaws.{stuck-held, sound-stored, stored-reads}
 use Rattle.rdis.proofs.CountLaws.{faults-are-cells}
+use Rattle.grid_promises.specs.Calls.{badIndex}
 use Rattle.grid_promises.specs.Refusals.{InRange, StoreLengths, Held, inverted, Misread}
 use Rattle.grid_promises.specs.Refusals.{ReadRefused, rangeRead, lengthRead, pastRead, spareRead, aboveRead}
 use Rattle.grid_promises.specs.Refusals.{StoreRefused, rangeStore, lengthStore, pastStore, spareStore, aboveStore, misreadStore}
 use Rattle.grid_promises.specs.Demands.{Greatest}
 use Rattle.grid_promises.specs.Promises.{Read, StoreExactly, Store}
 use Rattle.grid_promises.specs.declared.Answer.{Answer}
-use Rattle.grid_promises.proofs.RefusalLaws.{in-range, store-sized, within, past-iff, counter-held, held-is, misread-iff, read-lowest, store-13, store-lowest}
+use Rattle.grid_promises.proofs.RefusalLaws.{in-range, store-sized, within, past-iff, counter-held, held-is, misread-iff, read-lowest, store-4, store-13, store-lowest}
+use Rattle.grid_promises.proofs.IndexLaws.{index-names}
 use Rattle.grid_promises.proofs.ReadDemands.{read-demands}
 
 module _ (b : Block) (k : ℕ) (counters cells : List ℕ) (none : (y : ℕ) → StoreRefused b k counters (length cells) y → ⊥) where
@@ -89,9 +91,11 @@ module _ (b : Block) (k : ℕ) (counters cells : List ℕ) (a : Answer) (cells�
     read-none out l y (spareRead h) = none 3 (spareStore h)
     read-none out l y (aboveRead h) = none 4 (aboveStore h)
 
-    reads-back : (out : List ℕ) → length out ≡ b .rows → Read (b .rows) (b .columns) k cells′ counters out (record { number = 0 }) (b .data·)
-    reads-back out l = read-demands (b .rows) (b .columns) k cells′ counters out (record { number = 0 }) (b .data·) (record {
+    reads-back : (out : List ℕ) → length out ≡ b .rows → Read (b .rows) (b .columns) k cells′ counters out (record { number = 0; index = 0 }) (b .data·)
+    unfolding badIndex
+    reads-back out l = read-demands (b .rows) (b .columns) k cells′ counters out (record { number = 0; index = 0 }) (b .data·) (record {
       number = sym (lowest-none _ _ (read-lowest (b .rows) (b .columns) k cells′ counters (length out)) (read-none out l));
+      indexIs = refl;
       untouched = λ q. absurd (omega arith);
       shown = λ _. sym (rw (e .cellsAre z) (store-shows b k counters cells none));
     })
@@ -101,6 +105,8 @@ module _ (b : Block) (k : ℕ) (counters cells : List ℕ) (a : Answer) (cells�
     exactly = e;
     demands = record {
       lowest = lowest-refusal;
+      names = index-names k (b .rows + b .columns) counters (a .number) (a .index)
+          (λ z. store-4 b k counters (length cells) (subst Refused z (lowest-refusal .applies (omega arith)))) (e .indexIs);
       untouched = e .untouched;
       misread = thirteen;
       deepest = greatest;

@@ -8,7 +8,7 @@ use Rattle.bits.specs.Bits.{some}
 use Rattle.rdis.specs.Block.{Block}
 use Rattle.rdis.specs.Levels.{Outcome, masked, unmaskable, plan}
 use Rattle.rdis.specs.Cells.{misreads}
-use Rattle.rdis.specs.Packing.{width, bytesFor, rowCounter, columnCounter, above, spareClear}
+use Rattle.rdis.specs.Packing.{width, bytesFor, rowCounter, columnCounter, above, firstAbove, spareClear}
 
 -- ---- what is judged. m are the rows, n the columns, k is K
 
@@ -27,6 +27,10 @@ countersSized m n k counters = eqb counters (bytesFor (width k) (m + n))
 -- a word has a bit past the last column
 unfoldable pub past : ℕ → List ℕ → Bool
 past n ws = some (length ws) (λ i. leb (2 ^ n) (getD ws i 0))
+
+-- the index that goes with a number, of n counters: with refusal 4 that of the first counter above K, with any other number 0
+unfoldable pub badIndex : ℕ → ℕ → List ℕ → ℕ → ℕ
+badIndex k n counters number = cond (eqb number 4) (firstAbove k n counters) 0
 
 -- ---- the number of a read: of the output only the length counts
 

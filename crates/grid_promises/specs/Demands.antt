@@ -4,7 +4,7 @@ use Prim.Native.Nat.{ℕ, _+_, _*_, _<_, _≤_}
 use mathlib.Core.Path.{_≡_}
 use mathlib.Core.Bool.{true, false}
 use mathlib.Core.List.{List}
-use mathlib.Core.Logic.{_↔_}
+use mathlib.Core.Logic.{_↔_, _≢_}
 use lib.ListN.{length}
 use Rattle.bits.specs.Bits.{Below}
 use Rattle.bits.specs.Lowest.{Lowest}
@@ -16,12 +16,27 @@ use Rattle.grid_promises.specs.Refusals.{Spare, Held, Misread, inverted,
 use Rattle.grid_promises.specs.declared.ReadAnswer.{ReadAnswer}
 use Rattle.grid_promises.specs.declared.Answer.{Answer}
 
+-- ---- which counter is bad: what a read and a store share
+
+-- t is the index of the first of n counters that is above k, by the bits where they stand in the bytes: each before it is at most k
+pub record FirstAbove (k n : ℕ) (bs : List ℕ) (t : ℕ) : Type 0 where
+  pub inside : t < n
+  pub above : (x : ℕ) × Held (width k) bs t x × (k < x)
+  pub before : (s y : ℕ) → s < t → Held (width k) bs s y → y ≤ k
+
+-- an answer with this number and index: refusal 4 names the first counter above k, and any other answer has index 0
+pub record Names (k n : ℕ) (bs : List ℕ) (number index : ℕ) : Type 0 where
+  pub first : number ≡ 4 → FirstAbove k n bs index
+  pub none : number ≢ 4 → index ≡ 0
+
 -- ---- a read
 
 -- of m rows and n columns at K = k: lent `out`, which holds `after` at the end
 pub record ReadDemands (m n k : ℕ) (cells counters out : List ℕ) (answer : ReadAnswer) (after : List ℕ) : Type 0 where
   -- the lowest refusal that applies, or 0 where none does
   pub lowest : Lowest (ReadRefused m n k cells counters (length out)) (answer .number)
+  -- with refusal 4 which counter is above K: the rows' are counted first, from 0, and then the columns'
+  pub names : Names k (m + n) counters (answer .number) (answer .index)
   -- a refusal leaves the output as it was
   pub untouched : 0 < answer .number → after ≡ out
   -- accepted: a word a row, with no bit past the last column
@@ -71,6 +86,8 @@ pub record HeldLines (w m n : ℕ) (bs : List ℕ) (r c : ℕ → ℕ) : Type 0 
 pub record PlanDemands (b : Block) (k : ℕ) (counters : List ℕ) (answer : Answer) (counters′ : List ℕ) : Type 0 where
   -- the lowest refusal that applies, or 0 where none does
   pub lowest : Lowest (PlanRefused b k (length counters)) (answer .number)
+  -- it judges no counters, and names none
+  pub namesNone : answer .index ≡ 0
   pub untouched : Untouched answer counters counters′
   -- where none of 1, 2 and 3 applies: 7 exactly if there is a chain of 2K + 1 cells
   pub unmaskable : ((x : ℕ) → x < 7 → PlanRefused b k (length counters) x → ⊥) → (answer .number ≡ 7) ↔ HasChain b (2 * k + 1)
@@ -97,6 +114,8 @@ pub record Greatest (w n : ℕ) (bs : List ℕ) (x : ℕ) : Type 0 where
 pub record StoreDemands (b : Block) (k : ℕ) (counters cells : List ℕ) (answer : Answer) (cells′ : List ℕ) : Type 0 where
   -- the lowest refusal that applies, or 0 where none does
   pub lowest : Lowest (StoreRefused b k counters (length cells)) (answer .number)
+  -- with refusal 4 which counter is above K, as a read
+  pub names : Names k (b .rows + b .columns) counters (answer .number) (answer .index)
   pub untouched : Untouched answer cells cells′
   -- where none of 1 to 4 applies: 13 exactly if some stuck cell would read wrong
   pub misread : ((x : ℕ) → x < 13 → StoreRefused b k counters (length cells) x → ⊥) → (answer .number ≡ 13) ↔ Misread b k counters

@@ -3,9 +3,10 @@ use mathlib.Core.Path.{_≡_, refl}
 use mathlib.Core.Bool.{true, false}
 use mathlib.Core.List.{[], _∷_}
 use Prim.Native.Nat.{ℕ}
+use lib.Count.{trailingZeros}
 use lib.ListN.{getD}
 use Rattle.bits.specs.Bits.{has, sum, list, word, words}
-use Rattle.grid_sets.specs.Sets.{setsOf, times, crossings, odd, someLine, filled}
+use Rattle.grid_sets.specs.Sets.{setsOf, times, crossings, odd, someLine, firstLine, filled}
 
 abbrev rows : ℕ → ℕ
 rows i = getD (0 ∷ 1 ∷ 2 ∷ 3 ∷ []) i 0
@@ -38,6 +39,12 @@ in-pattern = (refl, refl, refl, refl)
 has-line : (someLine (setsOf 4 rows) (setsOf 3 columns) 3 ≡ false) × (someLine (setsOf 4 rows) (setsOf 2 columns) 2 ≡ true)
 unfolding setsOf words word list
 has-line = (refl, refl)
+
+-- above 2 the first line is row 3, above 1 row 2; of the first two rows and the columns, above 1 it is column 0, and above 2 column 2
+first-lines : (firstLine (setsOf 4 rows) (setsOf 3 columns) 4 2 ≡ 3) × (firstLine (setsOf 4 rows) (setsOf 3 columns) 4 1 ≡ 2)
+    × (firstLine (setsOf 2 rows) (setsOf 3 columns) 2 1 ≡ 2) × (firstLine (setsOf 2 rows) (setsOf 3 columns) 2 2 ≡ 4)
+unfolding firstLine setsOf words word list trailingZeros
+first-lines = (refl, refl, refl, refl)
 
 -- the greatest counter is 3; of the first two rows and columns it is 2, a column's; and of the first two rows 1
 how-many : (filled (setsOf 4 rows) (setsOf 3 columns) 8 ≡ 3) × (filled (setsOf 2 rows) (setsOf 2 columns) 8 ≡ 2) × (filled (setsOf 2 rows) (setsOf 0 columns) 8 ≡ 1)

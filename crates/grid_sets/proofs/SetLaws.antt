@@ -1,21 +1,25 @@
 -- Laws of the sets of counters: which lines they have, how often they have a line, where two of them cross, and how many have a line at all. Assumes nothing.
-use Prim.Native.Nat.{ℕ, zero, suc, _+_, _%_, _≤_, _<_, min, max}
+use Prim.Native.Nat.{ℕ, zero, suc, _+_, _%_, _^_, _≤_, _<_, min, max}
 use mathlib.Core.Path.{_≡_, refl, sym, ap, ap₂, _∙_}
-use mathlib.Core.Bool.{Bool, true, false, not, _&&_, _||_, and-false}
+use mathlib.Core.Bool.{Bool, true, false, not, cond, _&&_, _||_, and-false}
 use mathlib.Core.List.{List}
-use mathlib.Core.Logic.{⊎-elim}
+use mathlib.Core.Logic.{_≢_, ⊎-elim}
 use native.Mathlib.Numerals.{add-one}
+use native.Mathlib.Nat.{lt-of-lt-of-le}
 use native.Mathlib.Omega.{arith}
+use native.Mathlib.Decide.{ℕ-discrete}
 use borrow.Author.Tests.{lt-ltb, le-ltb, ltb-true, eq-eqb, ne-eqb, not-true}
+use lib.Count.{trailingZeros}
 use lib.Dec.{eqb, ltb}
 use lib.ListN.{getD}
-use Rattle.bits.specs.Bits.{num, some, sum, most, has, word, words}
+use lib.Pow.{pow-mono}
+use Rattle.bits.specs.Bits.{num, some, first, sum, most, has, word, words}
 use Rattle.bits.proofs.TestLaws.{clash, same-test, lt-or-le, and-in, and-left, and-right}
-use Rattle.bits.proofs.BoundLaws.{some-ext, some-join, sum-ext, sum-below}
-use Rattle.bits.proofs.BitLaws.{has-high, has-word, word-lt, some-has}
+use Rattle.bits.proofs.BoundLaws.{some-ext, some-join, IsFirst, first-is, first-in-front, first-behind, sum-ext, sum-below}
+use Rattle.bits.proofs.BitLaws.{has-high, has-zero, has-word, word-lt, some-has, lowest-set, lowest-below, below-lowest}
 use Rattle.bits.proofs.ByteLaws.{getD-words, has-words, words-below, words-ext}
 use Rattle.rdis.specs.Cells.{flips}
-use Rattle.grid_sets.specs.Sets.{setsOf, times, crossings, odd, someLine, filled}
+use Rattle.grid_sets.specs.Sets.{setsOf, times, crossings, odd, someLine, firstLine, filled}
 
 -- ---- the lines of a set
 
@@ -56,6 +60,39 @@ pub some-line : (m n s : ℕ) (f : ℕ → ℕ) → s < 8 → someLine (setsOf m
 some-line m n s f h =
     neither (eqb (getD (setsOf m f) s 0) 0) (eqb (getD (setsOf n (λ j. f (m + j))) s 0) 0)
     ∙ ap₂ _||_ (set-some n s (λ j. f (m + j)) h) (set-some m s f h) ∙ sym (some-join m n (λ t. ltb s (f t)))
+
+-- ---- the first line that sets have
+
+-- the lowest line of set s is the first whose counter is above s
+module _ (n s : ℕ) (f : ℕ → ℕ) (h : s < 8) (l : n ≤ 64) (some : getD (setsOf n f) s 0 ≢ 0) where
+  small : getD (setsOf n f) s 0 < 2 ^ n
+  unfolding setsOf
+  small = words-below 8 n (λ s i. ltb s (f i)) s
+
+  inside : trailingZeros 64 (getD (setsOf n f) s 0) < n
+  inside = lowest-below n 64 (getD (setsOf n f) s 0) l small some
+
+  lowest-first : IsFirst n (λ i. ltb s (f i)) (trailingZeros 64 (getD (setsOf n f) s 0))
+  lowest-first = record {
+    inside = inside;
+    passes = sym (set-has n s _ f h inside) ∙ lowest-set 64 (getD (setsOf n f) s 0) (lt-of-lt-of-le small (pow-mono l)) some;
+    before = λ k p. sym (set-has n s k f h (omega (arith, inside))) ∙ below-lowest 64 (getD (setsOf n f) s 0) k p;
+  }
+
+-- of two kinds of lines, whose counters stand one after the other, where some counter is above s
+pub first-line : (m n s : ℕ) (f : ℕ → ℕ) → s < 8 → m ≤ 64 → n ≤ 64 → some (m + n) (λ t. ltb s (f t)) ≡ true
+    → firstLine (setsOf m f) (setsOf n (λ j. f (m + j))) m s ≡ first (m + n) (λ t. ltb s (f t))
+unfolding firstLine
+first-line m n s f h lm ln p =
+    let R = getD (setsOf m f) s 0 in
+    let C = getD (setsOf n (λ j. f (m + j))) s 0 in
+    elim (ℕ-discrete R 0) [
+      | yes e ↦
+          let none : (k : ℕ) → k < m → ltb s (f k) ≡ false = λ k l. sym (set-has m s k f h l) ∙ ap (λ x. has x k) e ∙ has-zero k in
+          let line : C ≢ 0 = λ z. clash (some-line m n s f h ∙ p) (rw (eq-eqb R 0 e, eq-eqb C 0 z)) in
+          ap (λ t. cond t (m + trailingZeros 64 C) (trailingZeros 64 R)) (eq-eqb R 0 e) ∙ sym (first-is (m + n) _ _ (first-behind m n _ _ none (lowest-first n s (λ j. f (m + j)) h ln line)))
+      | no e ↦ ap (λ t. cond t (m + trailingZeros 64 C) (trailingZeros 64 R)) (ne-eqb R 0 e) ∙ sym (first-is (m + n) _ _ (first-in-front m n _ _ (lowest-first m s f h lm e)))
+    ]
 
 -- ---- how many sets have a line, or two
 

@@ -1,9 +1,10 @@
 -- Counters as sets of lines (rows or columns), a bit for each line: set s of counters has the lines whose counter is above s. So a counter is the number
 -- of sets that have its line, the smaller of two is the number of pairs of sets that have both lines, and the greatest the number of pairs of which one has a
 -- line. None of these numbers depends on the order of the sets: those of a plan's levels stand the last level first. Assumes nothing.
-use Prim.Native.Nat.{ℕ, _%_}
-use mathlib.Core.Bool.{Bool, not, _&&_}
+use Prim.Native.Nat.{ℕ, _+_, _%_}
+use mathlib.Core.Bool.{Bool, not, cond, _&&_}
 use mathlib.Core.List.{List}
+use lib.Count.{trailingZeros}
 use lib.Dec.{eqb, ltb}
 use lib.ListN.{getD}
 use Rattle.bits.specs.Bits.{num, sum, has, words}
@@ -27,6 +28,10 @@ odd rows columns n i j = eqb (crossings rows columns n i j % 2) 1
 -- one of the two sets numbered s has a line
 abbrev pub someLine : List ℕ → List ℕ → ℕ → Bool
 someLine rows columns s = not (eqb (getD rows s 0) 0 && eqb (getD columns s 0) 0)
+
+-- the first line that one of the two has, where m rows are counted before the columns: the lowest row, or else the lowest column
+unfoldable pub firstLine : List ℕ → List ℕ → ℕ → ℕ → ℕ
+firstLine rows columns m s = cond (eqb (getD rows s 0) 0) (m + trailingZeros 64 (getD columns s 0)) (trailingZeros 64 (getD rows s 0))
 
 -- how many of the first n pairs of sets have a line
 unfoldable pub filled : List ℕ → List ℕ → ℕ → ℕ

@@ -7,12 +7,12 @@ use mathlib.Core.Logic.{inl, inr}
 use lib.Count.{ones, onesIn}
 use lib.Dec.{lit<}
 use Rattle.bits.proofs.TestLaws.{clash}
-use Rattle.bits.specs.Bits.{some, sum, list, has, word, words, number, digits}
+use Rattle.bits.specs.Bits.{some, first, sum, list, has, word, words, number, digits}
 use Rattle.rdis.specs.Block.{Block, bit, differs, faulty, count, stuckCells, faultyCells, faults}
 use Rattle.rdis.specs.Levels.{Outcome, masked, unmaskable, whole, takes, taken, left, levels, plan}
 use Rattle.rdis.specs.Cells.{flips, holds, stored, reading}
 use Rattle.rdis.specs.Chains.{Cell, IsChain, HasChain}
-use Rattle.rdis.specs.Packing.{width, bytesFor, inOrder, packed, spareClear}
+use Rattle.rdis.specs.Packing.{width, bytesFor, inOrder, packed, counter, firstAbove, spareClear}
 
 -- as many columns as rows, and the data all zero
 abbrev square : ℕ → List ℕ → List ℕ → Block
@@ -56,6 +56,12 @@ pub cases : run G6 3 ∷ run G6 2 ∷ run G5 1 ∷ run G5 2 ∷ run G5 3 ∷ run
     ∷ []
 unfolding plan levels taken left takes whole faulty differs bit some sum list has word words xor packed bytesFor width number digits flips holds stored reading faults count ones onesIn
 cases = refl
+
+-- G10, 2 by 2 at K = 2: a 3 in row 0 and in column 1; in row 1 and in column 0; in no line, where every counter is 2; and at K = 3 in every line
+pub first-bad : (firstAbove 2 4 (0x57 ∷ []) ≡ 0) × (firstAbove 2 4 (0xC0 ∷ []) ≡ 3) × (firstAbove 2 4 (0x3C ∷ []) ≡ 1) × (firstAbove 2 4 (0xAA ∷ []) ≡ 4)
+    × (firstAbove 3 4 (0xFF ∷ []) ≡ 4)
+unfolding firstAbove first counter width number
+first-bad = (refl, refl, refl, refl, refl)
 
 -- the counters of G6 have 12 bits, and here bit 12 is set
 pub spare : spareClear 2 6 (0x5E ∷ 0x1B ∷ []) ≡ false

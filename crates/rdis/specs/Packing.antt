@@ -4,7 +4,7 @@ use mathlib.Core.Bool.{Bool, cond}
 use mathlib.Core.List.{List, _++_}
 use lib.ListN.{length}
 use lib.Dec.{leb, ltb}
-use Rattle.bits.specs.Bits.{some, list, number, digits}
+use Rattle.bits.specs.Bits.{some, first, list, number, digits}
 
 -- the bits of a counter where k levels are allowed
 unfoldable pub width : ℕ → ℕ
@@ -40,6 +40,10 @@ columnCounter w m bs j = counter w bs (m + j)
 -- one of the first n counters of bytes is above k, where k levels are allowed
 unfoldable pub above : ℕ → ℕ → List ℕ → Bool
 above k n bs = some n (λ t. ltb k (counter (width k) bs t))
+
+-- the index of the first of them, and n where none is
+unfoldable pub firstAbove : ℕ → ℕ → List ℕ → ℕ
+firstAbove k n bs = first n (λ t. ltb k (counter (width k) bs t))
 
 -- the bits past the n counters are 0
 unfoldable pub spareClear : ℕ → ℕ → List ℕ → Bool

@@ -46,20 +46,21 @@ grid-store-spec =
     (λ c. c .before .before .before .before .before .before .before .before .load-words4 .ensures .fits .0)
     -- slice-aggregate-store-4
     (λ c. c .before .before .before .before .before .before .before .before .before .load-words4 .ensures .fits .1)
-    -- store-requires, put-answer-requires
-    (λ c κs. tt) (λ c κs. tt)
+    -- store-requires, put-answer-requires, put-count-requires
+    (λ c κs. tt) (λ c κs. tt) (λ c κs. tt)
     -- array-share-prefix-cells
-    (λ c. let m = c .before .before .before .before .before .before in again (m .store .last .1 .1 .1 .1 .1 .1 .1 .0) _ (m .before .before .before .before .before .before .before .before .before .before .load-words4 .ensures .fits .0) (m .store .kept .1 .1 .1 .1 .1 .1 .1 .0) .fits)
+    (λ c. let m = c .before .before .before .before .before .before .before .before .before .before in again (m .store .last .1 .1 .1 .1 .1 .1 .1 .0) _ (m .before .before .before .before .before .before .before .before .before .before .load-words4 .ensures .fits .0) (m .store .kept .1 .1 .1 .1 .1 .1 .1 .0) .fits)
     -- slice-aggregate-put-words
-    (λ c. let m = c .before .before .before .before .before .before .before in again (m .store .last .1 .1 .1 .1 .1 .1 .1 .0) _ (m .before .before .before .before .before .before .before .before .before .before .load-words4 .ensures .fits .0) (m .store .kept .1 .1 .1 .1 .1 .1 .1 .0) .count)
+    (λ c. let m = c .before .before .before .before .before .before .before .before .before .before .before in again (m .store .last .1 .1 .1 .1 .1 .1 .1 .0) _ (m .before .before .before .before .before .before .before .before .before .before .load-words4 .ensures .fits .0) (m .store .kept .1 .1 .1 .1 .1 .1 .1 .0) .count)
     -- put-words-requires, put-end-requires, same-length
     (λ c κs. tt) (λ c κs. tt) (λ c. search needs)
     -- returns
     (λ c.
-    let m = c .before .before .before .before .before .before .before .before .before .before .before .before .before .before in
+    let m = c .before .before .before .before .before .before .before .before .before .before .before .before .before .before .before .before .before .before in
     put-answer (m .before .before .before .before .before .before .before .before .before .before .before .before .before .before .before .before .before .before .before .before .before .before .before .args .s .now) 5 (gridStore (m .store .ensures) (m .store .kept .1 .1 .1 .1 .1 .1 .1 .0))
     (λ i. m .before .before .before .before .before .before .before .before .call-number .ensures i ∷ m .before .before .before .before .before .before .before .call-number2 .ensures i ∷ m .before .before .before .before .before .before .call-number3 .ensures i ∷ [])
     (λ i. m .before .before .before .before .before .before .before .before .before .before .before .before .before .before .before .before .before .before .before .load-words .ensures .holds i ∷ m .before .before .before .before .before .before .before .before .before .before .before .before .before .before .before .before .load-words2 .ensures .holds i ∷ m .before .before .before .before .before .before .before .before .before .before .before .before .before .load-words3 .ensures .holds i ∷ m .before .before .elements .ensures i ∷ m .before .before .before .before .before .before .before .before .before .before .load-words4 .ensures .holds i ∷ [])
-    (put-rest (decimal (m .store .result .number)) (counts (m .store .result)) (c .before .before .before .before .before .before .before .before .before .before .before .put-answer .ensures)
+    (put-rest (decimal (m .store .result .number)) (counts (m .store .result)) (c .before .before .before .before .before .before .before .before .before .before .before .before .before .before .before .put-answer .ensures)
+    (word (c .before .before .before .before .before .before .before .before .before .before .before .put-count .ensures)
     (word (put-again 16 (again (m .store .last .1 .1 .1 .1 .1 .1 .1 .0) _ (m .before .before .before .before .before .before .before .before .before .before .load-words4 .ensures .fits .0) (m .store .kept .1 .1 .1 .1 .1 .1 .1 .0)) (c .before .before .before .before .before .before .put-words .ensures))
-    (ended (c .before .before .put-end .ensures))))))
+    (ended (c .before .before .put-end .ensures)))))))

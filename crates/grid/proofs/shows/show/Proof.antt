@@ -14,7 +14,7 @@ show-spec =
     (λ c.
     let a = c .before .before .before .before .before .args in
     let n = c .before .read-number in
-    show-judged (a .rows) (a .columns) (a .k) (a .cells .now) (a .counters .now) (a .out .now) (n .result) (n .ensures) _ refl refl (c .if1 .taken))
+    show-judged (a .rows) (a .columns) (a .k) (a .cells .now) (a .counters .now) (a .out .now) (n .result) (n .ensures) _ refl refl refl (c .if1 .taken))
     -- show-sized-requires
     (λ c κs.
     let a = c .before .before .before .before .before .before .args in

@@ -27,7 +27,7 @@ show-sized-spec =
     (λ c.
     let s = c .before .before .before .before .before in
     let a = s .args in
-    show-past (a .columns) (a .k) (a .cells .now) (a .counters .now) (a .out .now) (s .pre) _ refl refl (not-false _ (sym (c .before .within .ensures) ∙ not-true _ (c .if1 .taken))))
+    show-past (a .columns) (a .k) (a .cells .now) (a .counters .now) (a .out .now) (s .pre) _ refl refl refl (not-false _ (sym (c .before .within .ensures) ∙ not-true _ (c .if1 .taken))))
     -- unpack-requires
     (λ c κs. search needs)
     -- returns-2
@@ -36,7 +36,7 @@ show-sized-spec =
     let s = begin e in
     let a = s .args in
     let u = c .before .before .unpack in
-    show-refused (a .columns) (a .k) (a .cells .now) (a .counters .now) (a .out .now) (s .pre) (inside e) (u .result) (u .ensures) _ refl refl (c .if2 .taken))
+    show-refused (a .columns) (a .k) (a .cells .now) (a .counters .now) (a .out .now) (s .pre) (inside e) (u .result) (u .ensures) _ refl refl refl (c .if2 .taken))
     -- invert-requires
     (λ c κs. search needs)
     -- depth-requires
@@ -52,4 +52,4 @@ show-sized-spec =
     let a = s .args in
     let u = c .before .before .before .before .before .before .before .before .before .before .before .before .before .unpack in
     show-done (a .columns) (a .k) (a .cells .now) (a .counters .now) (a .out .now) (s .pre) (inside e) (u .result) (u .ensures) (c .before .before .before .before .before .before .before .before .before .before .before .if2 .left)
-    _ _ refl (c .depth .ensures) (c .before .before .before .before .before .invert .ensures)))
+    _ _ refl refl (c .depth .ensures) (c .before .before .before .before .before .invert .ensures)))
