@@ -5,5 +5,6 @@ pub mod PackLaws
 pub mod PlaneLaws
 pub mod TallyLaws
 pub mod FillLaws
+pub mod JudgeLaws
 pub mod PromiseLaws
 pub mod Demands

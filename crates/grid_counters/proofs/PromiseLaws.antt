@@ -18,6 +18,8 @@ use Rattle.rdis.proofs.PackingLaws.{in-order-below}
 use Rattle.grid_sets.specs.Sets.{setsOf, times, someLine, firstLine}
 use Rattle.grid_sets.proofs.SetLaws.{some-line, first-line}
 use Rattle.grid_counters.proofs.PackLaws.{bits-few}
+use Rattle.grid_counters.specs.declared.judge.Judged.{Judged}
+use Rattle.grid_counters.specs.Steps.{Judges}
 use Rattle.grid_counters.specs.Promises.{fit, roomy, unpackNumber, Unpack, packable}
 
 -- ---- lengths
@@ -95,28 +97,33 @@ refuses-four true true e = refl
 refuses-four true false e = absurd (omega arith)
 refuses-four false a e = absurd (omega arith)
 
--- with it the first line of the sets numbered k is the first counter above k, and with any other number there is no index
-index-named : (k m n : ℕ) (bs : List ℕ) (x : ℕ) → m ≤ 64 → n ≤ 64 → x ≡ 4 → above k (m + n) bs ≡ true
-    → cond (eqb x 4 && ltb k 8) (firstLine (setsOf m (rowCounter (width k) bs)) (setsOf n (columnCounter (width k) m bs)) m k) 0 ≡ firstAbove k (m + n) bs
+-- with it the first line of the sets numbered k is the first counter above k
+index-named : (k m n : ℕ) (bs : List ℕ) → m ≤ 64 → n ≤ 64 → above k (m + n) bs ≡ true
+    → firstLine (setsOf m (rowCounter (width k) bs)) (setsOf n (columnCounter (width k) m bs)) m k ≡ firstAbove k (m + n) bs
 unfolding firstAbove above
-index-named k m n bs x lm ln e f =
-    let small : k < 8 = above-few k m n bs f in rw (eq-eqb x 4 e, lt-ltb k 8 small) (first-line m n k (counter (width k) bs) small lm ln f)
+index-named k m n bs lm ln h = first-line m n k (counter (width k) bs) (above-few k m n bs h) lm ln h
 
-index-unnamed : (k x y : ℕ) → x ≢ 4 → cond (eqb x 4 && ltb k 8) y 0 ≡ 0
-index-unnamed k x y h = rw (ne-eqb x 4 h)
+-- a number and an index that were judged together
+names-four : (s a : Bool) (x t f : ℕ) → x ≡ cond (not s) 3 (cond a 4 0) → t ≡ cond (s && a) f 0 → (x ≡ 4 → t ≡ f) × (x ≢ 4 → t ≡ 0)
+names-four true true x t f e i = (λ _. i, λ h. absurd (h e))
+names-four true false x t f e i = (λ z. absurd (omega arith), λ _. i)
+names-four false a x t f e i = (λ z. absurd (omega arith), λ _. i)
 
 pub judged : (k m n : ℕ) (bs r c : List ℕ) → roomy k m n (length bs) ≡ true → r ≡ setsOf m (rowCounter (width k) bs) → c ≡ setsOf n (columnCounter (width k) m bs)
-    → (clear high : Bool) (x t : ℕ) → clear ≡ spareClear (width k) (m + n) bs → high ≡ (ltb k 8 && someLine r c k) → x ≡ cond clear (cond high 4 0) 3
-    → t ≡ cond (eqb x 4 && ltb k 8) (firstLine r c m k) 0 → Unpack k m n bs (record { number = x; index = t; rows = r; columns = c })
+    → (clear : Bool) (j : Judged) → clear ≡ spareClear (width k) (m + n) bs → Judges clear (ltb k 8 && someLine r c k) (firstLine r c m k) j
+    → Unpack k m n bs (record { number = j .number; index = j .index; rows = r; columns = c })
 unfolding unpackNumber
-judged k m n bs r c room er ec clear high x t p q e i =
-    let tests : x ≡ cond (not (spareClear (width k) (m + n) bs)) 3 (cond (above k (m + n) bs) 4 0) =
-    e ∙ rw (p, q, er, ec, above-sets k m n bs) (by-tests (spareClear (width k) (m + n) bs) (above k (m + n) bs)) in
+judged k m n bs r c room er ec clear j p q =
+    let spare = spareClear (width k) (m + n) bs in
+    let bad = above k (m + n) bs in
+    let high : ltb k 8 && someLine r c k ≡ bad = rw (er, ec) (above-sets k m n bs) in
+    let tests : j .number ≡ cond (not spare) 3 (cond bad 4 0) = q .number ∙ rw (p, high) (by-tests spare bad) in
     let few = has-room k m n (length bs) room in
+    let (four, other) = names-four spare bad (j .number) (j .index) (firstLine r c m k) tests (q .index ∙ rw (p, high)) in
     record {
       number = tests ∙ rw room;
-      names = λ f. i ∙ rw (er, ec) (index-named k m n bs x (few .rows) (few .columns) f (refuses-four (spareClear (width k) (m + n) bs) _ (sym tests ∙ f)));
-      namesNone = λ f. i ∙ index-unnamed k x _ f;
+      names = λ z. four z ∙ rw (er, ec) (index-named k m n bs (few .rows) (few .columns) (refuses-four spare bad (sym tests ∙ z)));
+      namesNone = other;
       noRows = λ h. clash room h;
       noColumns = λ h. clash room h;
       rowSets = λ _. er;

@@ -1,12 +1,13 @@
 -- What the private steps between bytes and sets say. Nobody who reads the promises needs this page. Assumes nothing.
 use Prim.Native.Nat.{ℕ, _+_, _*_, _/_, _%_, _<_}
 use mathlib.Core.Path.{_≡_}
-use mathlib.Core.Bool.{Bool, _&&_}
+use mathlib.Core.Bool.{Bool, cond, _&&_}
 use mathlib.Core.List.{List}
 use lib.Dec.{ltb}
 use lib.ListN.{length, getD}
 use Rattle.bits.specs.Bits.{has, word}
 use Rattle.grid_counters.specs.declared.planes.Planes.{Planes}
+use Rattle.grid_counters.specs.declared.judge.Judged.{Judged}
 
 -- the planes of n counters f
 pub record AreBits (n : ℕ) (f : ℕ → ℕ) (p : Planes) : Type 0 where
@@ -36,3 +37,8 @@ Pairs low high v = (f : ℕ → ℕ) → ((i : ℕ) → i < 32 → has low i ≡
 -- 128 counters of w bits, which have these planes, are stored as far as there are bytes
 abbrev pub StoresPlanes : ℕ → Planes → Planes → List ℕ → Type 0
 StoresPlanes w first second after = (f : ℕ → ℕ) → AreBits 64 f first → AreBits 64 (λ i. f (64 + i)) second → Filled (16 * w) (bitOf w f) after
+
+-- counters are judged by whether the spare bits are clear and a counter is above K, and t is the index of the first of these
+pub record Judges (clear high : Bool) (t : ℕ) (j : Judged) : Type 0 where
+  pub number : j .number ≡ cond clear (cond high 4 0) 3
+  pub index : j .index ≡ cond (clear && high) t 0

@@ -1,17 +1,14 @@
 // A block's counters in bytes: how many bytes they take, which counters bytes hold, and the bytes of the counters of levels.
 mod fill;
+mod judge;
 mod packing;
 mod planes;
 mod tally;
 
 use grid_sets::LEVELS;
 use grid_sets::LINES;
-use refusals::ACCEPTED;
-use refusals::BIT_PAST_END;
-use refusals::MALFORMED;
 use refusals::WRONG_LENGTH;
 ghost use mathlib.Core.Path.{_≡_};
-ghost use mathlib.Core.Bool.{cond};
 ghost use Rattle.grid_counters.specs.Promises.{fit, roomy as isRoomy, packable as isPackable, Unpack, Pack};
 
 // A block has at most so many counters: one for each of 64 rows and 64 columns.
@@ -46,16 +43,6 @@ fn roomy(k: usize, rows: usize, columns: usize, bytes: usize) -> bool
     fits(k, rows + columns, bytes)
 }
 
-// The refusal of bytes of the right length, the lowest that applies: 3 for a spare bit that is set, 4 for a counter above K.
-fn refusal(clear: bool, above: bool) -> usize
-    ensures { λ r. ⌜ r ≡ cond clear (cond above 4 0) 3 ⌝ }
-{
-    if !clear {
-        return BIT_PAST_END;
-    }
-    if above { MALFORMED } else { ACCEPTED }
-}
-
 // The counters that bytes hold, as sets, judged. They are handed out refused or not, but for bytes of a wrong length, which hold none.
 pub fn unpack(k: usize, rows: usize, columns: usize, bytes: &[u8]) -> Counters
     ensures { λ r. ⌜ Unpack k rows columns (now (bytes .entry)) r ⌝ }
@@ -73,14 +60,11 @@ pub fn unpack(k: usize, rows: usize, columns: usize, bytes: &[u8]) -> Counters
     let second = planes::planes_from(bytes, width, 64);
     let r = planes::sets(first, second, 0, rows);
     let c = planes::sets(first, second, rows, columns);
-    let number = refusal(
-        packing::spare_clear(bytes, width, rows + columns),
-        planes::above(&r, &c, k),
-    );
-    let index = planes::index(number, &r, &c, k, rows);
+    let clear = packing::spare_clear(bytes, width, rows + columns);
+    let j = judge::judge(clear, &r, &c, k, rows);
     Counters {
-        number,
-        index,
+        number: j.number,
+        index: j.index,
         rows: r,
         columns: c,
     }

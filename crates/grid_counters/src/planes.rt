@@ -1,14 +1,13 @@
 // The counters that bytes hold, as sets of lines. Bit q of every counter makes a word, a plane; the sets are made of the planes, 64 lines at once.
 use grid_sets::LEVELS;
-use refusals::MALFORMED;
 ghost use mathlib.Core.Path.{_≡_};
-ghost use mathlib.Core.Bool.{Bool, cond, _&&_};
+ghost use mathlib.Core.Bool.{Bool};
 ghost use Prim.Native.Nat.{ℕ, _+_, _*_, _/_, _%_, _^_, _≤_, _<_};
-ghost use lib.Dec.{eqb, ltb};
+ghost use lib.Dec.{ltb};
 ghost use lib.ListN.{length, take, drop};
 ghost use Rattle.bits.specs.Bits.{num, has, word, words, number};
 ghost use Rattle.rdis.specs.Packing.{counter};
-ghost use Rattle.grid_sets.specs.Sets.{setsOf, someLine, firstLine};
+ghost use Rattle.grid_sets.specs.Sets.{setsOf};
 ghost use Rattle.grid_counters.specs.Steps.{AreBits};
 
 // Bit 0 and bit 1 of 64 counters.
@@ -124,34 +123,4 @@ pub fn sets(first: Planes, second: Planes, at: usize, n: usize) -> [u64; LEVELS]
         cut(first.low, second.low, at, n),
         cut(first.high, second.high, at, n),
     )
-}
-
-// A counter is above `k`: one of the sets numbered `k` has a line.
-pub fn above(rows: &[u64; LEVELS], columns: &[u64; LEVELS], k: usize) -> bool
-    ensures { λ t. ⌜ t ≡ (ltb k 8 && someLine (now (rows .entry)) (now (columns .entry)) k) ⌝ }
-{
-    if k < LEVELS {
-        return !((rows[k] == 0) & (columns[k] == 0));
-    }
-    false
-}
-
-// The index in an answer with this number: of refusal 4 the first counter above `k`, where those of `at` rows stand before those of the columns, and else 0.
-pub fn index(
-    number: usize,
-    rows: &[u64; LEVELS],
-    columns: &[u64; LEVELS],
-    k: usize,
-    at: usize,
-) -> usize
-    requires { ⌜ at ≤ 64 ⌝ }
-    ensures { λ t. ⌜ t ≡ cond (eqb number 4 && ltb k 8) (firstLine (now (rows .entry)) (now (columns .entry)) at k) 0 ⌝ }
-{
-    if !((number == MALFORMED) & (k < LEVELS)) {
-        return 0;
-    }
-    if rows[k] == 0 {
-        return at + u64::trailing_zeros(columns[k]) as usize;
-    }
-    u64::trailing_zeros(rows[k]) as usize
 }

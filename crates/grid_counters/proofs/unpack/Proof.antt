@@ -49,13 +49,11 @@ unpack-spec =
     let w = c .before .before .before .before in
     let r = room (w .before) in
     (omega (arith, narrow w .1), omega (arith, r .rows, r .columns), rw (w .width .ensures) (r .size)))
-    -- above-requires, refusal-requires, index-requires
-    (λ c κs. search needs) (λ c κs. search needs) (λ c κs.
-    let r = room (c .before .before .before .before .before .before .before .before .before .before .before .before) in
-    omega (arith, r .rows, r .columns))
+    -- judge-requires
+    (λ c κs. let r = room (c .before .before .before .before .before .before .before .before) in omega (arith, r .rows, r .columns))
     -- returns-2
     (λ c.
-    let q = c .before .before .before .before .before .before .before in
+    let q = c .before .before .before in
     let w = q .before .before .before .before .before in
     let e = w .before in
     let a = begin e .args in
@@ -64,4 +62,4 @@ unpack-spec =
     let first = bits-ext 64 _ f _ (λ i _. ap f (omega arith)) (rw (w .width .ensures) at (q .before .before .before .before .planes-from .ensures)) in
     let second = rw (w .width .ensures) at (q .before .before .before .planes-from2 .ensures) in
     judged (a .k) (a .rows) (a .columns) (a .bytes .now) _ _ (fits e) (q .before .before .sets .ensures f four first second ∙ sets-ext (a .rows) _ f (λ i _. ap f (omega arith)))
-    (q .before .sets2 .ensures f four first second) (q .spare-clear .result) (c .before .before .before .before .above .result) (c .before .before .before .refusal .result) (c .index .result) (rw (w .width .ensures) at (q .spare-clear .ensures)) (c .before .before .before .before .above .ensures) (c .before .before .before .refusal .ensures) (c .index .ensures)))
+    (q .before .sets2 .ensures f four first second) (q .spare-clear .result) (c .judge .result) (rw (w .width .ensures) at (q .spare-clear .ensures)) (c .judge .ensures)))
