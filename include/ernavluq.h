@@ -89,8 +89,9 @@ ernavluq_pointer_write_answer ernavluq_pointer_write(
  * and is ignored where the cell is sound, except past the last column, where every bit that is read has to be 0. K is not stored with the counters: a
  * store and a read are given the K of the plan.
  *
- * A store or a read that finds a counter above K answers refusal 4 and says which: the index counts the counters from 0 as they stand in the bytes, the
- * rows first and then the columns. An index below rows is that row, and any other is column index - rows. Of several it is the lowest. */
+ * A store or a read that finds a counter above K answers refusal 4, if no lower refusal applies, and says which: the index counts the counters from 0 as
+ * they stand in the bytes, the rows first and then the columns. An index below rows is that row, and an index of rows or more is column (index - rows).
+ * If several counters are above K, it is the lowest index of theirs. */
 
 #define ERNAVLUQ_MAX_ROWS 64
 #define ERNAVLUQ_MAX_COLUMNS 64

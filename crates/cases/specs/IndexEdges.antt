@@ -5,7 +5,7 @@ use lib.ListN.{replicate}
 use Rattle.rdis.specs.Block.{Block}
 use Rattle.grid_promises.specs.Calls.{block}
 use Rattle.cases.specs.Lines.{Line, Call, gridRead, gridPlan, gridStore}
-use Rattle.cases.specs.Table.{Row, G3, stores, refused, storeNames, readNames}
+use Rattle.cases.specs.Table.{Row, G3, G5, planned, stores, refused, storeNames, readNames}
 use Rattle.cases.specs.Edges.{shown}
 
 -- reads of two rows of three and of three rows of two, by two bytes of five counters
@@ -47,19 +47,28 @@ indexEdges =
     ∷ record { call = gridRead 64 64 2 (replicate 64 0) (replicate 31 0 ++ (0xC0 ∷ [])) (replicate 64 7); expected = readNames 127 (replicate 64 7) }
     -- at K = 3 the same counters are accepted, and none is named
     ∷ record { call = readWide 3 0x0C 0x03; expected = shown (5 ∷ 6 ∷ []) }
-    -- nor by a refusal with a lower number, though row 1 is above K: a spare bit, a bit past the last column, an output too short, K out of range
+    -- nor by a refusal with a lower number, though row 1 is above K: a spare bit, a bit past the last column, an output too short, 65 columns, K = 0
     ∷ record { call = readWide 2 0x0C 0x04; expected = readRefuses 3 (7 ∷ 8 ∷ []) }
     ∷ record { call = gridRead 2 3 2 (5 ∷ 8 ∷ []) (0x0C ∷ 0x00 ∷ []) (7 ∷ 8 ∷ []); expected = readRefuses 3 (7 ∷ 8 ∷ []) }
     ∷ record { call = gridRead 2 3 2 (5 ∷ 2 ∷ []) (0x0C ∷ 0x00 ∷ []) (7 ∷ []); expected = readRefuses 2 (7 ∷ []) }
-    ∷ record { call = readWide 4 0x0C 0x00; expected = readRefuses 1 (7 ∷ 8 ∷ []) }
+    ∷ record { call = gridRead 2 65 2 (5 ∷ 2 ∷ []) (0x0C ∷ 0x00 ∷ []) (7 ∷ 8 ∷ []); expected = readRefuses 1 (7 ∷ 8 ∷ []) }
+    ∷ record { call = readWide 0 0x0C 0x00; expected = readRefuses 1 (7 ∷ 8 ∷ []) }
     -- a store names it too, and counts nothing: row 1, column 0, column 2; and it goes before a cell that would read wrong
     ∷ record { call = storeWide 0x0C 0x03; expected = storeNames 1 (7 ∷ 8 ∷ []) }
     ∷ record { call = storeWide 0x30 0x00; expected = storeNames 2 (7 ∷ 8 ∷ []) }
     ∷ record { call = storeWide 0x00 0x03; expected = storeNames 4 (7 ∷ 8 ∷ []) }
-    -- it names none where a spare bit is set beside a counter above K; nor where none is above K, refused by 13, or accepted by counters of which two are K
+    -- nor does it by a lower number, though row 1 is above K: a spare bit, a bit past the last column, cells too short, 65 columns
     ∷ record { call = storeWide 0x0C 0x04; expected = refused 3 (7 ∷ 8 ∷ []) }
+    ∷ record { call = gridStore (block 2 3 (5 ∷ 8 ∷ []) (3 ∷ 2 ∷ []) (0 ∷ 0 ∷ [])) 2 (0x0C ∷ 0x00 ∷ []) (7 ∷ 8 ∷ []); expected = refused 3 (7 ∷ 8 ∷ []) }
+    ∷ record { call = gridStore threeStuck 2 (0x0C ∷ 0x00 ∷ []) (7 ∷ []); expected = refused 2 (7 ∷ []) }
+    ∷ record { call = gridStore (block 2 65 (5 ∷ 2 ∷ []) (3 ∷ 2 ∷ []) (0 ∷ 0 ∷ [])) 2 (0x0C ∷ 0x00 ∷ []) (7 ∷ 8 ∷ []); expected = refused 1 (7 ∷ 8 ∷ []) }
+    -- nor where no counter is above K: refused by 13, and accepted by counters of which two are K
     ∷ record { call = storeWide 0x00 0x00; expected = refused 13 (7 ∷ 8 ∷ []) }
     ∷ record { call = storeWide 0x96 0x00; expected = stores 2 3 2 1 (4 ∷ 1 ∷ []) }
-    -- a plan judges no counters: with old ones above K it names none
-    ∷ record { call = gridPlan G3 1 (0x0F ∷ []); expected = refused 7 (0x0F ∷ []) }
+    -- a plan judges no counters, and names none though row 1 of the old ones is above K: refused by 7, accepted, refused by 3, by 2 and by 1
+    ∷ record { call = gridPlan G5 2 (0x0C ∷ []); expected = refused 7 (0x0C ∷ []) }
+    ∷ record { call = gridPlan G3 2 (0x0C ∷ []); expected = planned 2 3 2 1 (0x96 ∷ []) (2 ∷ 1 ∷ 1 ∷ 2 ∷ []) }
+    ∷ record { call = gridPlan (block 2 2 (4 ∷ 0 ∷ []) (0 ∷ 0 ∷ []) (0 ∷ 0 ∷ [])) 2 (0x0C ∷ []); expected = refused 3 (0x0C ∷ []) }
+    ∷ record { call = gridPlan (block 2 2 (0 ∷ []) (0 ∷ 0 ∷ []) (0 ∷ 0 ∷ [])) 2 (0x0C ∷ []); expected = refused 2 (0x0C ∷ []) }
+    ∷ record { call = gridPlan (block 2 65 (0 ∷ 0 ∷ []) (0 ∷ 0 ∷ []) (0 ∷ 0 ∷ [])) 2 (0x0C ∷ []); expected = refused 1 (0x0C ∷ []) }
     ∷ []

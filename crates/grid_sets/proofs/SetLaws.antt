@@ -65,18 +65,18 @@ some-line m n s f h =
 
 -- the lowest line of set s is the first whose counter is above s
 module _ (n s : ℕ) (f : ℕ → ℕ) (h : s < 8) (l : n ≤ 64) (some : getD (setsOf n f) s 0 ≢ 0) where
-  small : getD (setsOf n f) s 0 < 2 ^ n
+  set-below : getD (setsOf n f) s 0 < 2 ^ n
   unfolding setsOf
-  small = words-below 8 n (λ s i. ltb s (f i)) s
+  set-below = words-below 8 n (λ s i. ltb s (f i)) s
 
-  inside : trailingZeros 64 (getD (setsOf n f) s 0) < n
-  inside = lowest-below n 64 (getD (setsOf n f) s 0) l small some
+  lowest-inside : trailingZeros 64 (getD (setsOf n f) s 0) < n
+  lowest-inside = lowest-below n 64 (getD (setsOf n f) s 0) l set-below some
 
   lowest-first : IsFirst n (λ i. ltb s (f i)) (trailingZeros 64 (getD (setsOf n f) s 0))
   lowest-first = record {
-    inside = inside;
-    passes = sym (set-has n s _ f h inside) ∙ lowest-set 64 (getD (setsOf n f) s 0) (lt-of-lt-of-le small (pow-mono l)) some;
-    before = λ k p. sym (set-has n s k f h (omega (arith, inside))) ∙ below-lowest 64 (getD (setsOf n f) s 0) k p;
+    inside = lowest-inside;
+    passes = sym (set-has n s _ f h lowest-inside) ∙ lowest-set 64 (getD (setsOf n f) s 0) (lt-of-lt-of-le set-below (pow-mono l)) some;
+    before = λ k p. sym (set-has n s k f h (omega (arith, lowest-inside))) ∙ below-lowest 64 (getD (setsOf n f) s 0) k p;
   }
 
 -- of two kinds of lines, whose counters stand one after the other, where some counter is above s
