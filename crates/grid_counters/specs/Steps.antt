@@ -38,7 +38,7 @@ Pairs low high v = (f : ℕ → ℕ) → ((i : ℕ) → i < 32 → has low i ≡
 abbrev pub StoresPlanes : ℕ → Planes → Planes → List ℕ → Type 0
 StoresPlanes w first second after = (f : ℕ → ℕ) → AreBits 64 f first → AreBits 64 (λ i. f (64 + i)) second → Filled (16 * w) (bitOf w f) after
 
--- counters are judged by whether the spare bits are clear and a counter is above K, and t is the index of the first of these
+-- counters are judged: by whether their spare bits are clear, whether one of them is above K, and t, the index of the first that is
 pub record Judges (clear high : Bool) (t : ℕ) (j : Judged) : Type 0 where
   pub number : j .number ≡ cond clear (cond high 4 0) 3
   pub index : j .index ≡ cond (clear && high) t 0

@@ -41,7 +41,7 @@ columnCounter w m bs j = counter w bs (m + j)
 unfoldable pub above : ℕ → ℕ → List ℕ → Bool
 above k n bs = some n (λ t. ltb k (counter (width k) bs t))
 
--- the index of the first of them, and n where none is
+-- the index of the first of n counters of bytes that is above k, and n where none is
 unfoldable pub firstAbove : ℕ → ℕ → List ℕ → ℕ
 firstAbove k n bs = first n (λ t. ltb k (counter (width k) bs t))
 
