@@ -4,11 +4,10 @@ use mathlib.Core.Path.{_≡_, sym, ap, subst, _∙_}
 use mathlib.Core.Bool.{cond}
 use mathlib.Core.List.{List}
 use mathlib.Core.Logic.{_≢_}
-use native.Mathlib.Omega.{arith}
 use native.Mathlib.Decide.{ℕ-discrete}
 use borrow.Author.Tests.{eq-eqb, ne-eqb, lt-ltb, le-ltb, ltb-true, ltb-false}
 use lib.Dec.{ltb}
-use Rattle.bits.proofs.BoundLaws.{IsFirst, first-found, first-is}
+use Rattle.bits.proofs.BoundLaws.{first-found, first-is}
 use Rattle.rdis.specs.Packing.{width, counter, firstAbove}
 use Rattle.grid_promises.specs.Calls.{badIndex}
 use Rattle.grid_promises.specs.Refusals.{Above}

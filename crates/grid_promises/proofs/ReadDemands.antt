@@ -9,7 +9,6 @@ use Rattle.bits.proofs.ByteLaws.{length-words, words-below, has-words}
 use Rattle.rdis.specs.Block.{Sized, bit}
 use Rattle.rdis.specs.Cells.{flips, reading}
 use Rattle.rdis.specs.Packing.{width}
-use Rattle.grid_promises.specs.Calls.{readNumber}
 use Rattle.grid_promises.specs.Refusals.{inverted}
 use Rattle.grid_promises.specs.Refusals.{ReadRefused}
 use Rattle.grid_promises.specs.Promises.{ReadExactly, Read}
@@ -17,22 +16,25 @@ use Rattle.grid_promises.specs.declared.ReadAnswer.{ReadAnswer}
 use Rattle.grid_promises.proofs.RefusalLaws.{held-is, read-4, read-lowest}
 use Rattle.grid_promises.proofs.IndexLaws.{index-names}
 
-lowest-read : (m n k : ℕ) (cells counters out : List ℕ) (x : ℕ) → x ≡ readNumber m n k cells counters (length out) → Lowest (ReadRefused m n k cells counters (length out)) x
-lowest-read m n k cells counters out x e = subst (Lowest (ReadRefused m n k cells counters (length out))) (sym e) (read-lowest m n k cells counters (length out))
+module _ (m n k : ℕ) (cells counters out : List ℕ) (a : ReadAnswer) (after : List ℕ) (e : ReadExactly m n k cells counters out a after) where
+  abbrev Refused : ℕ → Type 0
+  Refused = ReadRefused m n k cells counters (length out)
 
-pub read-demands : (m n k : ℕ) (cells counters out : List ℕ) (a : ReadAnswer) (after : List ℕ) → ReadExactly m n k cells counters out a after → Read m n k cells counters out a after
-unfolding reading bit flips
-read-demands m n k cells counters out a after e = record {
-  exactly = e;
-  demands = record {
-    lowest = lowest-read m n k cells counters out (a .number) (e .number);
-    names = index-names k (m + n) counters (a .number) (a .index)
-        (λ z. read-4 m n k cells counters (length out) (subst (ReadRefused m n k cells counters (length out)) z (lowest-read m n k cells counters out (a .number) (e .number) .applies (omega arith))))
-        (e .indexIs);
-    untouched = e .untouched;
-    inside = λ z. subst (Sized m n) (sym (e .shown z)) (length-words m n _, words-below m n _);
-    shows = λ z i j x y p q u v.
-        ap (λ ws. bit ws i j) (e .shown z) ∙ has-words m n _ i j p q
-        ∙ ap₂ (λ a b. inverted a b (bit cells i j)) (held-is (width k) i x counters u) (held-is (width k) (m + j) y counters v);
-  };
-}
+  lowest-refusal : Lowest Refused (a .number)
+  lowest-refusal = subst (Lowest Refused) (sym (e .number)) (read-lowest m n k cells counters (length out))
+
+  pub read-demands : Read m n k cells counters out a after
+  unfolding reading bit flips
+  read-demands = record {
+    exactly = e;
+    demands = record {
+      lowest = lowest-refusal;
+      names = index-names k (m + n) counters (a .number) (a .index)
+          (λ z. read-4 m n k cells counters (length out) (subst Refused z (lowest-refusal .applies (omega arith)))) (e .indexIs);
+      untouched = e .untouched;
+      inside = λ z. subst (Sized m n) (sym (e .shown z)) (length-words m n _, words-below m n _);
+      shows = λ z i j x y p q u v.
+          ap (λ ws. bit ws i j) (e .shown z) ∙ has-words m n _ i j p q
+          ∙ ap₂ (λ a b. inverted a b (bit cells i j)) (held-is (width k) i x counters u) (held-is (width k) (m + j) y counters v);
+    };
+  }
