@@ -47,7 +47,7 @@ indexEdges =
     ∷ record { call = gridRead 64 64 2 (replicate 64 0) (replicate 31 0 ++ (0xC0 ∷ [])) (replicate 64 7); expected = readNames 127 (replicate 64 7) }
     -- at K = 3 the same counters are accepted, and none is named
     ∷ record { call = readWide 3 0x0C 0x03; expected = shown (5 ∷ 6 ∷ []) }
-    -- nor by a refusal with a lower number, though row 1 is above K: a spare bit, a bit past the last column, an output too short, 65 columns, K = 0
+    -- nor by a refusal with a lower number, though a counter is above K: a spare bit, a bit past the last column, an output too short, 65 columns, K = 0
     ∷ record { call = readWide 2 0x0C 0x04; expected = readRefuses 3 (7 ∷ 8 ∷ []) }
     ∷ record { call = gridRead 2 3 2 (5 ∷ 8 ∷ []) (0x0C ∷ 0x00 ∷ []) (7 ∷ 8 ∷ []); expected = readRefuses 3 (7 ∷ 8 ∷ []) }
     ∷ record { call = gridRead 2 3 2 (5 ∷ 2 ∷ []) (0x0C ∷ 0x00 ∷ []) (7 ∷ []); expected = readRefuses 2 (7 ∷ []) }
