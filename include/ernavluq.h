@@ -29,7 +29,7 @@ typedef char ernavluq_size_t_has_64_bits[sizeof(size_t) == 8 ? 1 : -1];
 /* The number of an answer. */
 enum ernavluq_refusal {
     ERNAVLUQ_ACCEPTED = 0,
-    ERNAVLUQ_OUT_OF_RANGE = 1,  /* n, the rows, the columns or K lie outside their range */
+    ERNAVLUQ_OUT_OF_RANGE = 1,  /* n, the rows, the columns, K or the target lie outside their range */
     ERNAVLUQ_WRONG_LENGTH = 2,  /* a buffer is not exactly as long as it should be */
     ERNAVLUQ_BIT_PAST_END = 3,  /* a grid word has a bit past the last column, or a spare bit of metadata or counters is 1 */
     ERNAVLUQ_MALFORMED = 4,     /* the metadata of a row is not well formed, or a counter is above K */
@@ -89,15 +89,17 @@ ernavluq_pointer_write_answer ernavluq_pointer_write(
  * and is ignored where the cell is sound, except past the last column, where every bit that is read has to be 0. K is not stored with the counters: a
  * store and a read are given the K of the plan.
  *
- * A store or a read that finds a counter above K answers refusal 4, if no lower refusal applies, and says which: the index counts the counters from 0 as
- * they stand in the bytes, the rows first and then the columns. An index below rows is that row, and an index of rows or more is column (index - rows).
- * If several counters are above K, it is the lowest index of theirs. */
+ * A store, a read or a conversion that finds a counter above K answers refusal 4, if no lower refusal applies, and says which: the index counts the counters
+ * from 0 as they stand in the bytes, the rows first and then the columns. An index below rows is that row, and an index of rows or more is column
+ * (index - rows). If several counters are above K, it is the lowest index of theirs. */
 
 #define ERNAVLUQ_MAX_ROWS 64
 #define ERNAVLUQ_MAX_COLUMNS 64
-#define ERNAVLUQ_MAX_LEVELS 3
-/* The bytes of counters, which have 1 bit each for K = 1 and 2 bits each for K = 2 and 3. */
-#define ERNAVLUQ_COUNTER_BYTES(rows, columns, k) ((((rows) + (columns)) * ((k) == 1 ? 1 : 2) + 7) / 8)
+#define ERNAVLUQ_MAX_LEVELS 7
+/* The bytes of counters, which have 1 bit each for K = 1, 2 bits each for K = 2 and 3, and 3 bits each for K = 4 to 7. */
+#define ERNAVLUQ_COUNTER_BYTES(rows, columns, k) ((((rows) + (columns)) * ((k) == 1 ? 1 : (k) <= 3 ? 2 : 3) + 7) / 8)
+/* No block's counters take more: so many bytes are those of 64 rows and 64 columns at K = 4 to 7. */
+#define ERNAVLUQ_MAX_COUNTER_BYTES 48
 
 typedef struct {
     size_t number; /* 0, or the refusal */
@@ -113,7 +115,12 @@ typedef struct {
     size_t index;  /* with refusal 4 the index of the first counter above K, else 0: so of a plan always 0 */
 } ernavluq_grid_answer;
 
-/* Plans a write of data to a block, and is lent no cells. Takes its rows and columns (1 to 64 each), K (1 to 3), the data, which cells are stuck and at
+typedef struct {
+    size_t number; /* 0, or the refusal */
+    size_t index;  /* with refusal 4 the index of the first counter above K, else 0 */
+} ernavluq_grid_convert_answer;
+
+/* Plans a write of data to a block, and is lent no cells. Takes its rows and columns (1 to 64 each), K (1 to 7), the data, which cells are stuck and at
  * what. Accepted, counters holds how many levels took each row and each column. A store with these counters and all else the same is then accepted if its
  * cells have the right length, and answers the same. Of the old counters only the length counts.
  * Refusals: 1, 2, 3 and 7, and 7 exactly where after K levels some stuck cell would still read wrong. */
@@ -136,7 +143,7 @@ ernavluq_grid_answer ernavluq_grid_store(
     const uint8_t *counters, size_t counters_length,
     uint64_t *cells, size_t cells_length);
 
-/* Reads a block. Takes its rows and columns (1 to 64 each), K (1 to 3), the cells and the counters, whoever made them. Accepted, out holds each cell,
+/* Reads a block. Takes its rows and columns (1 to 64 each), K (1 to 7), the cells and the counters, whoever made them. Accepted, out holds each cell,
  * inverted where the smaller of its row's and its column's counter is odd, and 0 past the last column. Of out only the length counts.
  * Refusals: 1 to 4. */
 ernavluq_grid_read_answer ernavluq_grid_read(
@@ -144,6 +151,16 @@ ernavluq_grid_read_answer ernavluq_grid_read(
     const uint64_t *cells, size_t cells_length,
     const uint8_t *counters, size_t counters_length,
     uint64_t *out, size_t out_length);
+
+/* Converts the counters of a block from K to the target, an equal or a larger K. Takes the block's rows and columns (1 to 64 each), K (1 to 7), the target
+ * (K to 7) and the counters at K, whoever made them. Accepted, out holds the same counters at the target: each has the same number and stands in its order,
+ * in as many bits as counters have at the target, and the spare bits are 0. Any cells read at the target with out as they read at K with counters.
+ * counters has ERNAVLUQ_COUNTER_BYTES(rows, columns, k) bytes, out ERNAVLUQ_COUNTER_BYTES(rows, columns, to). Of out only the length counts.
+ * Refusals: 1 to 4, and 1 also where the target is smaller than K. */
+ernavluq_grid_convert_answer ernavluq_grid_convert(
+    size_t rows, size_t columns, size_t k, size_t to,
+    const uint8_t *counters, size_t counters_length,
+    uint8_t *out, size_t out_length);
 
 #ifdef __cplusplus
 }

@@ -1,11 +1,11 @@
 //! Makes a call, checks what it did a second way, and tells the outcome in one line.
 
 use crate::bits::bit_of_bytes;
-use crate::call::{Call, GridPlan, GridRead, GridStore, PointerRead, PointerWrite};
-use crate::{check_grid, grid, pointer};
+use crate::call::{Call, GridConvert, GridPlan, GridRead, GridStore, PointerRead, PointerWrite};
+use crate::{check_convert, check_grid, convert, grid, pointer};
 
-/// The outcome of a call: 0 or the refusal, the counts of a write, a plan or a store, and of a grid read or store the
-/// index of the first counter above K.
+/// The outcome of a call: 0 or the refusal, the counts of a write, a plan or a store, and of a grid read,
+/// store or convert the index of the first counter above K.
 #[derive(Clone, Debug, PartialEq, Eq)]
 pub struct Outcome {
     pub number: u8,
@@ -127,6 +127,18 @@ fn make_grid_read(call: &mut GridRead) -> Result<Outcome, String> {
     })
 }
 
+/// Makes a grid convert and checks it.
+fn make_grid_convert(call: &mut GridConvert) -> Result<Outcome, String> {
+    let output_before = call.output.clone();
+    let answer = convert::convert(call.numbers, &call.counters, &mut call.output);
+    check_convert::check_convert(call, &output_before, answer)?;
+    Ok(Outcome {
+        number: answer.number,
+        counts: vec![],
+        index: Some(answer.index),
+    })
+}
+
 /// Makes a call, which changes its buffers as documents 01 and 02 say; an error if a check fails.
 pub fn make(call: &mut Call) -> Result<Outcome, String> {
     match call {
@@ -135,6 +147,7 @@ pub fn make(call: &mut Call) -> Result<Outcome, String> {
         Call::GridPlan(c) => make_grid_plan(c),
         Call::GridRead(c) => make_grid_read(c),
         Call::GridStore(c) => make_grid_store(c),
+        Call::GridConvert(c) => make_grid_convert(c),
     }
 }
 
@@ -153,6 +166,7 @@ pub fn line(call: &Call, outcome: &Outcome) -> String {
         Call::GridPlan(c) => parts.push(hex_of_bytes(&c.counters)),
         Call::GridRead(c) => parts.push(hex_of_words(&c.output)),
         Call::GridStore(c) => parts.push(hex_of_words(&c.cells)),
+        Call::GridConvert(c) => parts.push(hex_of_bytes(&c.output)),
     }
     parts.join(" ")
 }

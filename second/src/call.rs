@@ -55,7 +55,15 @@ pub struct GridStore {
     pub cells: Vec<u64>,
 }
 
-/// One call of one of the five functions of documents 01 and 02.
+/// The arguments of a grid convert, tag 6; the numbers are rows, columns, K and the target.
+#[derive(Clone, Debug, PartialEq, Eq)]
+pub struct GridConvert {
+    pub numbers: [u64; 4],
+    pub counters: Vec<u8>,
+    pub output: Vec<u8>,
+}
+
+/// One call of one of the six functions of documents 01 and 02.
 #[derive(Clone, Debug, PartialEq, Eq)]
 pub enum Call {
     PointerWrite(PointerWrite),
@@ -63,6 +71,7 @@ pub enum Call {
     GridPlan(GridPlan),
     GridRead(GridRead),
     GridStore(GridStore),
+    GridConvert(GridConvert),
 }
 
 /// Why no call could be taken from the input.
@@ -100,13 +109,13 @@ fn next_number(input: &mut impl Read) -> Result<u64, Trouble> {
     Ok(u64::from_le_bytes(bytes))
 }
 
-/// The next rows, columns and K.
-fn next_three_numbers(input: &mut impl Read) -> Result<[u64; 3], Trouble> {
-    Ok([
-        next_number(input)?,
-        next_number(input)?,
-        next_number(input)?,
-    ])
+/// The next numbers of a grid call: rows, columns, K, and of a convert the target.
+fn next_numbers<const COUNT: usize>(input: &mut impl Read) -> Result<[u64; COUNT], Trouble> {
+    let mut numbers = [0; COUNT];
+    for number in numbers.iter_mut() {
+        *number = next_number(input)?;
+    }
+    Ok(numbers)
 }
 
 /// The next count of elements, two bytes, at most 1,024.
@@ -159,25 +168,30 @@ pub fn next_call(input: &mut impl Read) -> Result<Option<Call>, Trouble> {
             output: next_bytes(input)?,
         }),
         3 => Call::GridPlan(GridPlan {
-            numbers: next_three_numbers(input)?,
+            numbers: next_numbers(input)?,
             data: next_words(input)?,
             mask: next_words(input)?,
             values: next_words(input)?,
             counters: next_bytes(input)?,
         }),
         4 => Call::GridRead(GridRead {
-            numbers: next_three_numbers(input)?,
+            numbers: next_numbers(input)?,
             cells: next_words(input)?,
             counters: next_bytes(input)?,
             output: next_words(input)?,
         }),
         5 => Call::GridStore(GridStore {
-            numbers: next_three_numbers(input)?,
+            numbers: next_numbers(input)?,
             data: next_words(input)?,
             mask: next_words(input)?,
             values: next_words(input)?,
             counters: next_bytes(input)?,
             cells: next_words(input)?,
+        }),
+        6 => Call::GridConvert(GridConvert {
+            numbers: next_numbers(input)?,
+            counters: next_bytes(input)?,
+            output: next_bytes(input)?,
         }),
         _ => return Err(Trouble::BadCall),
     };
@@ -251,6 +265,11 @@ pub fn put_call(output: &mut impl Write, call: &Call) -> io::Result<()> {
             put_words(output, &[&c.data, &c.mask, &c.values])?;
             put_bytes(output, &[&c.counters])?;
             put_words(output, &[&c.cells])
+        }
+        Call::GridConvert(c) => {
+            output.write_all(&[6])?;
+            put_numbers(output, &c.numbers)?;
+            put_bytes(output, &[&c.counters, &c.output])
         }
     }
 }

@@ -9,7 +9,8 @@ fn g1_with(numbers: [u64; 3]) -> Block {
     block(numbers, [&[1, 2], &[0, 0], &[0, 0]])
 }
 
-/// G9: K, the rows and the columns beside their limits.
+/// G9: K, the rows and the columns beside their limits. Before A8, K = 4 was outside; now it asks for two bytes of
+/// counters. `cases_levels.rs` has K = 8.
 fn nine() -> Vec<Case> {
     let far_level = (1 << 32) + 1;
     vec![
@@ -95,7 +96,7 @@ fn bits_past() -> Vec<Case> {
 }
 
 /// The plan of G1 with buffers of these lengths: data, mask, values and counters.
-fn plan_lengths(name: &'static str, lengths: [usize; 4]) -> Case {
+fn plan_lengths(name: &str, lengths: [usize; 4]) -> Case {
     let mut block = g1_with([2, 2, 1]);
     block.data.resize(lengths[0], 0);
     block.mask.resize(lengths[1], 0);
@@ -104,7 +105,7 @@ fn plan_lengths(name: &'static str, lengths: [usize; 4]) -> Case {
 }
 
 /// The store of G1 with buffers of these lengths: data, mask, values, counters and cells.
-fn store_lengths(name: &'static str, lengths: [usize; 5]) -> Case {
+fn store_lengths(name: &str, lengths: [usize; 5]) -> Case {
     let mut block = g1_with([2, 2, 1]);
     block.data.resize(lengths[0], 0);
     block.mask.resize(lengths[1], 0);
@@ -145,7 +146,8 @@ fn several() -> Vec<Case> {
     let past_a_loop = block([2, 2, 1], [&[0, 4], &[3, 3], &[1, 2]]);
     vec![
         store_over(
-            "1 before 2, 3 and 4",
+            // Before A8 this was 1, for K = 4; now two bytes of counters are due.
+            "K = 4, 2 before 3",
             &block([2, 2, 4], words),
             &[0xff],
             &[9],

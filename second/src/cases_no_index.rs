@@ -35,8 +35,9 @@ fn levels() -> Vec<Case> {
         read_and_store(at_2, &masked([2, 3, 2]), &BAD_ROW_1),
         // The same counter is not above K: accepted, with four counts that are not 0.
         read_and_store(at_3, &masked([2, 3, 3]), &BAD_ROW_1),
-        // 1 goes before 4, above the range of K and below it.
+        // In three bits the same bytes hold 5, 5, 4, 0 and 0: 4 with index 0. Before A8 this K was out of range.
         read_and_store(at_4, &masked([2, 3, 4]), &BAD_ROW_1),
+        // 1 goes before 4.
         read_and_store(at_0, &masked([2, 3, 0]), &BAD_ROW_1),
         // Counters of one bit take one byte: 2.
         read_and_store(at_1, &masked([2, 3, 1]), &BAD_ROW_1),
@@ -79,7 +80,7 @@ fn bits() -> Vec<Case> {
 }
 
 /// The store with buffers of these lengths: data, mask, values, counters and cells.
-fn store_lengths(name: &'static str, lengths: [usize; 5]) -> Case {
+fn store_lengths(name: &str, lengths: [usize; 5]) -> Case {
     let mut block = masked([2, 3, 2]);
     let mut counters = BAD_ROW_1.to_vec();
     block.data.resize(lengths[0], 0);
@@ -90,7 +91,7 @@ fn store_lengths(name: &'static str, lengths: [usize; 5]) -> Case {
 }
 
 /// The read with buffers of these lengths: cells, counters and output.
-fn read_lengths(name: &'static str, lengths: [usize; 3]) -> Case {
+fn read_lengths(name: &str, lengths: [usize; 3]) -> Case {
     let mut cells = vec![5, 3];
     let mut counters = BAD_ROW_1.to_vec();
     cells.resize(lengths[0], 0);

@@ -8,7 +8,7 @@ use crate::pointer::ROW_BYTES;
 const JUNK: u8 = 0xa5;
 
 /// A case: what it shows, and its call.
-pub type Case = (&'static str, Call);
+pub type Case = (String, Call);
 
 /// A row of zeros but for the given positions.
 fn row(ones: &[usize]) -> Vec<u8> {
@@ -39,7 +39,7 @@ fn write(
 
 /// A write as a case.
 fn written(
-    name: &'static str,
+    name: &str,
     n: u64,
     data: &[usize],
     stuck_at_0: &[usize],
@@ -47,40 +47,40 @@ fn written(
     metadata: &[u8],
 ) -> Case {
     let call = write(n, data, stuck_at_0, stuck_at_1, metadata);
-    (name, Call::PointerWrite(call))
+    (String::from(name), Call::PointerWrite(call))
 }
 
 /// A read as a case, of cells that are 1 at the given positions, into junk.
-fn read(name: &'static str, n: u64, cells: &[usize], metadata: &[u8]) -> Case {
+fn read(name: &str, n: u64, cells: &[usize], metadata: &[u8]) -> Case {
     let call = PointerRead {
         n,
         cells: row(cells),
         metadata: metadata.to_vec(),
         output: vec![JUNK; ROW_BYTES],
     };
-    (name, Call::PointerRead(call))
+    (String::from(name), Call::PointerRead(call))
 }
 
 /// A fresh write for n = 2 whose five buffers have the given lengths.
-fn write_lengths(name: &'static str, lengths: [usize; 5]) -> Case {
+fn write_lengths(name: &str, lengths: [usize; 5]) -> Case {
     let mut call = write(2, &[], &[], &[], &[0, 0, 0]);
     call.data.resize(lengths[0], 0);
     call.mask.resize(lengths[1], 0);
     call.values.resize(lengths[2], 0);
     call.cells.resize(lengths[3], JUNK);
     call.metadata.resize(lengths[4], 0);
-    (name, Call::PointerWrite(call))
+    (String::from(name), Call::PointerWrite(call))
 }
 
 /// A fresh read for n = 2 whose three buffers have the given lengths.
-fn read_lengths(name: &'static str, lengths: [usize; 3]) -> Case {
+fn read_lengths(name: &str, lengths: [usize; 3]) -> Case {
     let call = PointerRead {
         n: 2,
         cells: vec![0; lengths[0]],
         metadata: vec![0; lengths[1]],
         output: vec![JUNK; lengths[2]],
     };
-    (name, Call::PointerRead(call))
+    (String::from(name), Call::PointerRead(call))
 }
 
 /// P1 to P3: one active entry of two, a full row of one entry, and no entry left.

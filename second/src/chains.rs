@@ -55,12 +55,15 @@ fn ends_after_step(
     longer
 }
 
-/// Whether a chain of so many cells exists whose first step, if it has one, goes the given way.
-fn chain_exists_from(grid: &[Vec<State>], length: usize, first_step: Step) -> bool {
+/// The length of the longest chain of at most so many cells whose first step, if it has one, goes the given way. A
+/// chain without its last cell is a chain too, so the search ends at the first length that no chain has.
+fn longest_chain_from(grid: &[Vec<State>], most: usize, first_step: Step) -> usize {
     let mut ends = ends_of_one(grid);
     let mut step = first_step;
     let mut wanted = State::Right;
-    for _ in 1..length {
+    let mut length = 0;
+    while length < most && ends.iter().any(|line| line.contains(&true)) {
+        length += 1;
         ends = ends_after_step(grid, &ends, step, wanted);
         step = match step {
             Step::ByRow => Step::ByColumn,
@@ -71,25 +74,26 @@ fn chain_exists_from(grid: &[Vec<State>], length: usize, first_step: Step) -> bo
             _ => State::Right,
         };
     }
-    ends.iter().any(|line| line.iter().any(|end| *end))
+    length
 }
 
-/// Whether a chain of so many cells exists, its first step by row or by column.
-pub fn chain_exists(grid: &[Vec<State>], length: usize) -> bool {
-    chain_exists_from(grid, length, Step::ByRow) || chain_exists_from(grid, length, Step::ByColumn)
+/// The length of the longest chain of at most so many cells, its first step by row or by column; 0 if there is none.
+pub fn longest_chain(grid: &[Vec<State>], most: usize) -> usize {
+    let by_row = longest_chain_from(grid, most, Step::ByRow);
+    let by_column = longest_chain_from(grid, most, Step::ByColumn);
+    by_row.max(by_column)
 }
 
 /// Refusal 7 if a chain of 2K + 1 cells exists; else L, which is 0 if no cell is wrong and otherwise the
 /// greatest number for which a chain of 2L - 1 cells exists.
 pub fn verdict(grid: &[Vec<State>], most_levels: usize) -> Verdict {
-    if chain_exists(grid, 2 * most_levels + 1) {
+    let longest = longest_chain(grid, 2 * most_levels + 1);
+    if longest == 2 * most_levels + 1 {
         return Verdict::Refusal7;
     }
     let mut levels = 0;
-    for candidate in 1..=most_levels {
-        if chain_exists(grid, 2 * candidate - 1) {
-            levels = candidate;
-        }
+    while 2 * (levels + 1) - 1 <= longest {
+        levels += 1;
     }
     Verdict::Levels(levels)
 }

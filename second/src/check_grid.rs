@@ -4,13 +4,14 @@
 use crate::bits::{bit_of_word, bytes_that_hold};
 use crate::call::{GridPlan, GridRead, GridStore};
 use crate::chains::{verdict, Verdict};
+use crate::check_convert::check_larger_plans;
 use crate::check_index::{check_index, check_no_index};
 use crate::counters::{counter_width, stored_counter};
 use crate::grid::{self, Answer, ReadAnswer};
 use crate::levels::states;
 
 /// Checks a plan already made: that it names no counter, refusal 7 and L by chains, and of an accepted one its counts,
-/// and its counters by a store with them.
+/// and its counters by a store with them and by the plans at every larger K.
 pub fn check_plan(call: &GridPlan, answer: Answer) -> Result<(), String> {
     check_no_index(answer.number, answer.index)?;
     if answer.number == 0 || answer.number == 7 {
@@ -20,6 +21,7 @@ pub fn check_plan(call: &GridPlan, answer: Answer) -> Result<(), String> {
         check_fault_counts([&call.data, &call.mask, &call.values], answer)?;
         check_bounds_of_levels(call, answer)?;
         try_store(call, answer)?;
+        check_larger_plans(call, answer)?;
     }
     Ok(())
 }

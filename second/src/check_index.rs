@@ -1,19 +1,20 @@
 //! Checks a second way which counter an answer names: by the bits of the packed counters where they stand in bytes.
 
-use crate::counters::counter_width;
+/// The least width whose numbers reach K, and 1 for K = 0, of which no counters are judged.
+fn width_that_reaches(most_levels: u64) -> usize {
+    (64 - most_levels.leading_zeros() as usize).max(1)
+}
 
 /// The counters whose bits are in the bytes, rows first: bit q of counter t is bit w * t + q of the bytes.
-fn counters_in_bytes(numbers: [u64; 3], packed: &[u8]) -> Vec<u64> {
-    let width = counter_width(numbers[2] as usize);
+pub fn counters_in_bytes(numbers: [u64; 3], packed: &[u8]) -> Vec<u64> {
+    let width = width_that_reaches(numbers[2]);
     let lines = numbers[0].saturating_add(numbers[1]);
     let mut counters = Vec::new();
     let mut position = 0;
     while (counters.len() as u64) < lines && position + width <= 8 * packed.len() {
         let mut counter = 0;
-        let mut weight = 1;
-        for _ in 0..width {
-            counter += weight * u64::from(packed[position / 8] >> (position % 8) & 1);
-            weight *= 2;
+        for bit in 0..width {
+            counter |= u64::from(packed[position / 8] >> (position % 8) & 1) << bit;
             position += 1;
         }
         counters.push(counter);
@@ -21,8 +22,8 @@ fn counters_in_bytes(numbers: [u64; 3], packed: &[u8]) -> Vec<u64> {
     counters
 }
 
-/// Checks the index of a read or a store: with number 4 the counter there is above K and none before it is, with any
-/// other number it is 0, and where the counters were judged good, none is above K.
+/// Checks the index of a read, a store or a convert: with number 4 the counter there is above K and none before it is,
+/// with any other number it is 0, and where the counters were judged good, none is above K.
 pub fn check_index(
     numbers: [u64; 3],
     packed: &[u8],

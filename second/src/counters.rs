@@ -1,9 +1,10 @@
-//! The shape of a grid and its counters, one for each row and each column (document 01, "Grid blocks").
+//! The shape of a grid and its counters, one for each row and each column (document 01, "Grid blocks"), with up to
+//! seven levels (document 02, A8).
 
 use crate::bits::{bit_of_bytes, bytes_that_hold, set_bit_of_bytes};
 
 pub const MOST_LINES: u64 = 64;
-pub const MOST_LEVELS: u64 = 3;
+pub const MOST_LEVELS: u64 = 7;
 
 /// The judged numbers of a grid.
 #[derive(Clone, Copy)]
@@ -35,12 +36,12 @@ pub fn judged_shape(rows: u64, columns: u64, most_levels: u64) -> Result<Shape, 
     })
 }
 
-/// The width of a counter in bits: 1 for K = 1, and 2 for K = 2 or 3.
+/// The width of a counter in bits: 1 for K = 1, 2 for K = 2 or 3, and 3 for K = 4 to 7, where counters straddle bytes.
 pub fn counter_width(most_levels: usize) -> usize {
-    if most_levels == 1 {
-        1
-    } else {
-        2
+    match most_levels {
+        1 => 1,
+        2 | 3 => 2,
+        _ => 3,
     }
 }
 

@@ -1,19 +1,28 @@
 //! Damage to the counters of grid calls: spare bits, and counters above K, one or several, in one list or in both.
 
 use crate::bits::{bytes_that_hold, set_bit_of_bytes};
-use crate::counters::{counter_width, packed_counters, unpacked_counters, MOST_LEVELS, MOST_LINES};
+use crate::counters::{counter_width, packed_counters, unpacked_counters, MOST_LINES};
 use crate::make_grid::shape_of;
 use crate::random::Random;
 
-/// The ranges of rows, columns and K end here.
-pub const MOST: [u64; 3] = [MOST_LINES, MOST_LINES, MOST_LEVELS];
+/// The ranges of rows, columns and K end here, where K goes up to the greatest.
+pub fn most_of_numbers(greatest: usize) -> [u64; 3] {
+    [MOST_LINES, MOST_LINES, greatest as u64]
+}
 
-/// The only K for which a counter of its width can be above it.
-const K_WITH_BAD_COUNTERS: u64 = 2;
+/// A K for which a counter of its width can be above it: up to 3 that is 2 alone.
+fn some_k_with_bad_counters(random: &mut Random, greatest: usize) -> u64 {
+    if greatest > 3 {
+        random.pick(&[2, 4, 4, 5, 5, 6])
+    } else {
+        2
+    }
+}
 
 /// The bits that the counters of these numbers use, if the numbers are in range and the length is theirs.
-fn used_bits(numbers: [u64; 3], counters: &[u8]) -> Option<usize> {
-    if (0..3).any(|place| !(1..=MOST[place]).contains(&numbers[place])) {
+fn used_bits(numbers: [u64; 3], counters: &[u8], greatest: usize) -> Option<usize> {
+    let most = most_of_numbers(greatest);
+    if (0..3).any(|place| !(1..=most[place]).contains(&numbers[place])) {
         return None;
     }
     let used = (numbers[0] + numbers[1]) as usize * counter_width(numbers[2] as usize);
@@ -25,8 +34,13 @@ fn used_bits(numbers: [u64; 3], counters: &[u8]) -> Option<usize> {
 }
 
 /// Sets the first spare bit, the last, any one or all, if there is one.
-pub fn set_spare_bits(random: &mut Random, numbers: [u64; 3], counters: &mut [u8]) {
-    let first = match used_bits(numbers, counters) {
+pub fn set_spare_bits(
+    random: &mut Random,
+    greatest: usize,
+    numbers: [u64; 3],
+    counters: &mut [u8],
+) {
+    let first = match used_bits(numbers, counters, greatest) {
         Some(used) if used < counters.len() * 8 => used,
         _ => return,
     };
@@ -75,27 +89,58 @@ fn places_to_raise(random: &mut Random, rows: usize, columns: usize) -> Vec<usiz
     }
 }
 
-/// Sets every bit of some counters: above K for K = 2, and the most that is allowed for 1 and 3.
-pub fn raise_counters(random: &mut Random, numbers: [u64; 3], counters: &mut [u8]) {
-    if used_bits(numbers, counters).is_none() {
+/// A counter above K in its width, or where there is none the highest of its width.
+fn some_high_counter(random: &mut Random, most_levels: usize) -> usize {
+    let highest = (1 << counter_width(most_levels)) - 1;
+    if most_levels + 1 < highest {
+        random.between(most_levels + 1, highest)
+    } else {
+        highest
+    }
+}
+
+/// Gives some counters values above K where the width has any, and else the highest of the width. Where the values
+/// may differ, the first is often the lowest of them: the first bad counter is then not the greatest.
+pub fn raise_counters(
+    random: &mut Random,
+    greatest: usize,
+    numbers: [u64; 3],
+    counters: &mut [u8],
+) {
+    if used_bits(numbers, counters, greatest).is_none() {
         return;
     }
     let shape = shape_of(numbers);
     let width = counter_width(shape.most_levels);
-    for place in places_to_raise(random, shape.rows, shape.columns) {
+    let mut places = places_to_raise(random, shape.rows, shape.columns);
+    places.sort();
+    let values_differ = matches!(shape.most_levels, 4 | 5);
+    let first_is_lowest = values_differ && random.percent(60);
+    for place in places.iter() {
+        let value = if first_is_lowest && *place == places[0] {
+            shape.most_levels + 1
+        } else {
+            some_high_counter(random, shape.most_levels)
+        };
         for bit in 0..width {
-            set_bit_of_bytes(counters, place * width + bit, true);
+            set_bit_of_bytes(counters, place * width + bit, value >> bit & 1 == 1);
         }
     }
 }
 
-/// Gives a sound call K = 2 and raises counters above it; no other is above 2, so that it is known which are bad.
-pub fn put_bad_counters(random: &mut Random, numbers: &mut [u64; 3], packed: &mut Vec<u8>) {
+/// Gives a sound call a K that has bad counters and raises some above it; no other is above K, so that it is known
+/// which are bad.
+pub fn put_bad_counters(
+    random: &mut Random,
+    greatest: usize,
+    numbers: &mut [u64; 3],
+    packed: &mut Vec<u8>,
+) {
     let mut counters = unpacked_counters(shape_of(*numbers), packed);
-    numbers[2] = K_WITH_BAD_COUNTERS;
+    numbers[2] = some_k_with_bad_counters(random, greatest);
     for counter in counters.rows.iter_mut().chain(&mut counters.columns) {
-        *counter = (*counter).min(K_WITH_BAD_COUNTERS as usize);
+        *counter = (*counter).min(numbers[2] as usize);
     }
     *packed = packed_counters(shape_of(*numbers), &counters);
-    raise_counters(random, *numbers, packed);
+    raise_counters(random, greatest, *numbers, packed);
 }

@@ -4,26 +4,32 @@ use crate::bits::bytes_that_hold;
 use crate::call::{GridPlan, GridRead, GridStore};
 use crate::counters::counter_width;
 use crate::damage::{number_near_limit, number_outside, resize_bytes, resize_words};
-use crate::damage_counters::{raise_counters, set_spare_bits, MOST};
+use crate::damage_counters::{most_of_numbers, raise_counters, set_spare_bits};
 use crate::random::Random;
 
 /// Gives a grid plan one kind of damage.
-pub fn damage_plan(random: &mut Random, call: &mut GridPlan) {
+pub fn damage_plan(random: &mut Random, greatest: usize, call: &mut GridPlan) {
     let mut words = [&mut call.data, &mut call.mask, &mut call.values];
     match random.below(100) {
-        0..=29 => damage_numbers(random, &mut call.numbers, &mut words, &mut call.counters),
+        0..=29 => damage_numbers(
+            random,
+            greatest,
+            &mut call.numbers,
+            &mut words,
+            &mut call.counters,
+        ),
         30..=59 => damage_lengths(random, &mut words, &mut call.counters),
         60..=89 => {
             let place = random.below(3);
             set_bits_past(random, call.numbers[1], words[place]);
         }
         90..=94 => call.numbers.swap(0, 1),
-        _ => call.numbers[2] = random.between(0, 4) as u64,
+        _ => call.numbers[2] = random.between(0, greatest + 1) as u64,
     }
 }
 
 /// Gives a grid store one kind of damage.
-pub fn damage_store(random: &mut Random, call: &mut GridStore) {
+pub fn damage_store(random: &mut Random, greatest: usize, call: &mut GridStore) {
     let mut words = [
         &mut call.data,
         &mut call.mask,
@@ -31,36 +37,51 @@ pub fn damage_store(random: &mut Random, call: &mut GridStore) {
         &mut call.cells,
     ];
     match random.below(100) {
-        0..=14 => damage_numbers(random, &mut call.numbers, &mut words, &mut call.counters),
+        0..=14 => damage_numbers(
+            random,
+            greatest,
+            &mut call.numbers,
+            &mut words,
+            &mut call.counters,
+        ),
         15..=34 => damage_lengths(random, &mut words, &mut call.counters),
         35..=52 => {
             let place = random.below(3);
             set_bits_past(random, call.numbers[1], words[place]);
         }
-        53..=65 => set_spare_bits(random, call.numbers, &mut call.counters),
+        53..=65 => set_spare_bits(random, greatest, call.numbers, &mut call.counters),
         66..=94 => {
-            // The counters of K = 3 have the width of those of K = 2, for which 3 is too high.
+            // The counters of K = 3 have the width of those of K = 2, for which 3 is too high; so have those of 7 that
+            // of 4, 5 and 6.
             if call.numbers[2] == 3 && random.bit() {
                 call.numbers[2] = 2;
+            } else if call.numbers[2] == 7 && greatest == 7 && random.bit() {
+                call.numbers[2] = random.pick(&[4, 5, 6]);
             }
-            raise_counters(random, call.numbers, &mut call.counters);
+            raise_counters(random, greatest, call.numbers, &mut call.counters);
         }
         95 | 96 => call.numbers.swap(0, 1),
-        _ => call.numbers[2] = random.between(0, 4) as u64,
+        _ => call.numbers[2] = random.between(0, greatest + 1) as u64,
     }
 }
 
 /// Gives a grid read one kind of damage.
-pub fn damage_read(random: &mut Random, call: &mut GridRead) {
+pub fn damage_read(random: &mut Random, greatest: usize, call: &mut GridRead) {
     let mut words = [&mut call.cells, &mut call.output];
     match random.below(100) {
-        0..=18 => damage_numbers(random, &mut call.numbers, &mut words, &mut call.counters),
+        0..=18 => damage_numbers(
+            random,
+            greatest,
+            &mut call.numbers,
+            &mut words,
+            &mut call.counters,
+        ),
         19..=38 => damage_lengths(random, &mut words, &mut call.counters),
         39..=51 => set_bits_past(random, call.numbers[1], &mut call.cells),
-        52..=64 => set_spare_bits(random, call.numbers, &mut call.counters),
-        65..=94 => raise_counters(random, call.numbers, &mut call.counters),
+        52..=64 => set_spare_bits(random, greatest, call.numbers, &mut call.counters),
+        65..=94 => raise_counters(random, greatest, call.numbers, &mut call.counters),
         95 | 96 => call.numbers.swap(0, 1),
-        _ => call.numbers[2] = random.between(0, 4) as u64,
+        _ => call.numbers[2] = random.between(0, greatest + 1) as u64,
     }
 }
 
@@ -68,25 +89,28 @@ pub fn damage_read(random: &mut Random, call: &mut GridRead) {
 /// new numbers would ask for.
 fn damage_numbers(
     random: &mut Random,
+    greatest: usize,
     numbers: &mut [u64; 3],
     words: &mut [&mut Vec<u64>],
     counters: &mut Vec<u8>,
 ) {
+    let most = most_of_numbers(greatest);
     let place = random.below(3);
     numbers[place] = if random.percent(75) {
-        number_outside(random, numbers[place], MOST[place])
+        number_outside(random, numbers[place], most[place])
     } else {
-        number_near_limit(random, numbers[place], MOST[place])
+        number_near_limit(random, numbers[place], most[place])
     };
     if numbers.iter().all(|number| *number <= 70) && random.bit() {
         let rows = numbers[0] as usize;
         for buffer in words.iter_mut() {
             buffer.resize(rows, 0);
         }
-        let width = match numbers[2] {
-            0 => random.below(3),
-            1..=3 => counter_width(numbers[2] as usize),
-            _ => random.between(2, 3),
+        let widest = counter_width(greatest);
+        let width = match numbers[2] as usize {
+            0 => random.below(widest + 1),
+            k if k <= greatest => counter_width(k),
+            _ => random.between(widest, widest + 1),
         };
         let bits = (rows + numbers[1] as usize) * width;
         counters.resize(bytes_that_hold(bits), 0);

@@ -4,7 +4,7 @@ use crate::levels::State;
 use crate::random::Random;
 
 /// A grid without a fault.
-fn sound_grid(rows: usize, columns: usize) -> Vec<Vec<State>> {
+pub fn sound_grid(rows: usize, columns: usize) -> Vec<Vec<State>> {
     vec![vec![State::Sound; columns]; rows]
 }
 
@@ -19,7 +19,7 @@ fn opposite(state: State) -> State {
 
 /// Places so many alternating cells, each in the row or the column of the one before in turn, as far as
 /// the grid has rows and columns for them.
-fn staircase(random: &mut Random, grid: &mut [Vec<State>], length: usize, first: State) {
+pub fn staircase(random: &mut Random, grid: &mut [Vec<State>], length: usize, first: State) {
     let rows = random.order(grid.len());
     let columns = random.order(grid[0].len());
     let mut by_row = random.bit();

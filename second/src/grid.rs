@@ -22,7 +22,7 @@ pub struct Answer {
     pub index: usize,
 }
 
-/// What a read answers: 0 or the refusal, and of refusal 4 the index of the first counter above K.
+/// What a read or a conversion answers: 0 or the refusal, and of refusal 4 the index of the first counter above K.
 #[derive(Clone, Copy, Debug, PartialEq, Eq)]
 pub struct ReadAnswer {
     pub number: u8,

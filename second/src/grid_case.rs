@@ -49,12 +49,12 @@ pub fn stuck(size: usize, most_levels: u64, at_1: &[Place], at_0: &[Place]) -> B
 }
 
 /// The plan of a block as a case, into so many bytes of junk.
-pub fn plan(name: &'static str, block: &Block, counter_bytes: usize) -> Case {
+pub fn plan(name: &str, block: &Block, counter_bytes: usize) -> Case {
     plan_over(name, block, &vec![JUNK_BYTE; counter_bytes])
 }
 
 /// The plan of a block as a case, with these old counters.
-pub fn plan_over(name: &'static str, block: &Block, old_counters: &[u8]) -> Case {
+pub fn plan_over(name: &str, block: &Block, old_counters: &[u8]) -> Case {
     let call = GridPlan {
         numbers: block.numbers,
         data: block.data.clone(),
@@ -62,16 +62,16 @@ pub fn plan_over(name: &'static str, block: &Block, old_counters: &[u8]) -> Case
         values: block.values.clone(),
         counters: old_counters.to_vec(),
     };
-    (name, Call::GridPlan(call))
+    (String::from(name), Call::GridPlan(call))
 }
 
 /// The store of a block with the given counters as a case, into junk.
-pub fn store(name: &'static str, block: &Block, counters: &[u8]) -> Case {
+pub fn store(name: &str, block: &Block, counters: &[u8]) -> Case {
     store_over(name, block, counters, &vec![JUNK_WORD; block.data.len()])
 }
 
 /// The store of a block with the given counters as a case, with these old cells.
-pub fn store_over(name: &'static str, block: &Block, counters: &[u8], old_cells: &[u64]) -> Case {
+pub fn store_over(name: &str, block: &Block, counters: &[u8], old_cells: &[u64]) -> Case {
     let call = GridStore {
         numbers: block.numbers,
         data: block.data.clone(),
@@ -80,17 +80,17 @@ pub fn store_over(name: &'static str, block: &Block, counters: &[u8], old_cells:
         counters: counters.to_vec(),
         cells: old_cells.to_vec(),
     };
-    (name, Call::GridStore(call))
+    (String::from(name), Call::GridStore(call))
 }
 
 /// A read as a case, into junk.
-pub fn read(name: &'static str, numbers: [u64; 3], cells: &[u64], counters: &[u8]) -> Case {
+pub fn read(name: &str, numbers: [u64; 3], cells: &[u64], counters: &[u8]) -> Case {
     read_into(name, numbers, cells, counters, cells.len())
 }
 
 /// A read as a case, into so many words of junk.
 pub fn read_into(
-    name: &'static str,
+    name: &str,
     numbers: [u64; 3],
     cells: &[u64],
     counters: &[u8],
@@ -102,11 +102,11 @@ pub fn read_into(
         counters: counters.to_vec(),
         output: vec![JUNK_WORD; output_words],
     };
-    (name, Call::GridRead(call))
+    (String::from(name), Call::GridRead(call))
 }
 
 /// The names of a read and of a store of the same block with the same counters.
-pub type Names = [&'static str; 2];
+pub type Names<'a> = [&'a str; 2];
 
 /// The read and the store with these names, both into junk; the read's cells are the data words.
 pub fn read_and_store(names: Names, block: &Block, counters: &[u8]) -> Vec<Case> {

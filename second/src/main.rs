@@ -1,4 +1,4 @@
-//! The commands: `run` makes the calls on standard input, `make`, `cases` and `long` put calls out.
+//! The commands: `run` makes the calls on standard input, `make`, `cases`, `long` and `levels` put calls out.
 
 use std::io::{self, BufReader, BufWriter, Write};
 use std::process::ExitCode;
@@ -6,10 +6,11 @@ use std::process::ExitCode;
 use second::answer;
 use second::call::{next_call, put_call, Call, Trouble};
 use second::make::Maker;
+use second::{cases_convert, cases_convert_refused, cases_levels, cases_wide_counters};
 use second::{cases_grid, cases_pointer, long};
 
-const USAGE: &str = "usage: second run < calls | second make SEED COUNT > calls \
-    | second cases > calls | second long > calls";
+const USAGE: &str = "usage: second run < calls | second make SEED COUNT [3] > calls \
+    | second cases > calls | second long > calls | second levels > calls";
 
 /// Makes each call on the input and prints one line a call, until the input ends or a call is bad.
 fn run(output: &mut impl Write) -> Result<(), String> {
@@ -35,11 +36,16 @@ fn put(output: &mut impl Write, call: &Call) -> Result<(), String> {
     put_call(output, call).map_err(|error| error.to_string())
 }
 
-/// Puts out COUNT calls that depend on SEED alone.
-fn make(seed: &str, count: &str, output: &mut impl Write) -> Result<(), String> {
+/// Puts out COUNT calls that depend on SEED alone, made by the given maker.
+fn make(
+    maker: fn(u64) -> Maker,
+    seed: &str,
+    count: &str,
+    output: &mut impl Write,
+) -> Result<(), String> {
     let seed: u64 = seed.parse().map_err(|_| USAGE)?;
     let count: u64 = count.parse().map_err(|_| USAGE)?;
-    let mut maker = Maker::new(seed);
+    let mut maker = maker(seed);
     for _ in 0..count {
         put(output, &maker.next_call())?;
     }
@@ -49,6 +55,20 @@ fn make(seed: &str, count: &str, output: &mut impl Write) -> Result<(), String> 
 /// Puts out the calls of the cases of document 01.
 fn cases(output: &mut impl Write) -> Result<(), String> {
     for (_, call) in cases_pointer::all().iter().chain(cases_grid::all().iter()) {
+        put(output, call)?;
+    }
+    Ok(())
+}
+
+/// Puts out the calls of the cases of document 02, A8.
+fn levels(output: &mut impl Write) -> Result<(), String> {
+    let all = [
+        cases_levels::all(),
+        cases_wide_counters::all(),
+        cases_convert::all(),
+        cases_convert_refused::all(),
+    ];
+    for (_, call) in all.iter().flatten() {
         put(output, call)?;
     }
     Ok(())
@@ -69,9 +89,11 @@ fn main() -> ExitCode {
     let mut output = BufWriter::new(io::stdout().lock());
     let done = match words.as_slice() {
         ["run"] => run(&mut output),
-        ["make", seed, count] => make(seed, count, &mut output),
+        ["make", seed, count] => make(Maker::new, seed, count, &mut output),
+        ["make", seed, count, "3"] => make(Maker::of_three_levels, seed, count, &mut output),
         ["cases"] => cases(&mut output),
         ["long"] => put_long(&mut output),
+        ["levels"] => levels(&mut output),
         _ => Err(String::from(USAGE)),
     };
     let flushed = output.flush().map_err(|error| error.to_string());

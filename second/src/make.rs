@@ -1,19 +1,25 @@
-//! Makes calls of all five tags, sound and damaged, that depend on a seed alone.
+//! Makes calls of all six tags, sound and damaged, that depend on a seed alone; and those of the five tags and three
+//! levels that there were before A8, as they were made then.
 
 use crate::call::{Call, GridPlan, GridStore, PointerWrite};
+use crate::counters::MOST_LEVELS;
 use crate::random::Random;
-use crate::{damage_counters, damage_grid, damage_pointer, grid, pointer};
-use crate::{make_grid, make_plan, make_pointer, make_store};
+use crate::{damage_convert, damage_counters, damage_grid, damage_pointer, grid, pointer};
+use crate::{make_convert, make_grid, make_plan, make_pointer, make_store};
 
 /// How many rows, plans and grids are remembered for later calls.
 const MOST_KEPT: usize = 6;
 
-/// So many stores and reads in a hundred get counters above K before any other damage.
+/// The greatest K before A8; stored calls were made with it.
+const MOST_LEVELS_BEFORE: usize = 3;
+
+/// So many stores, reads and conversions in a hundred get counters above K before any other damage.
 const PERCENT_WITH_BAD_COUNTERS: usize = 20;
 
 /// Makes calls one after another and remembers what accepted writes, plans and stores left.
 pub struct Maker {
     random: Random,
+    greatest: usize,
     rows: Vec<PointerWrite>,
     plans: Vec<GridPlan>,
     grids: Vec<GridStore>,
@@ -48,10 +54,21 @@ fn damages(random: &mut Random) -> usize {
 }
 
 impl Maker {
-    /// A maker whose calls depend on the seed alone.
+    /// A maker of calls of all tags with K up to 7, which depend on the seed alone.
     pub fn new(seed: u64) -> Maker {
+        Maker::up_to(seed, MOST_LEVELS as usize)
+    }
+
+    /// A maker of the calls of before A8, with K up to 3 and without conversions, byte for byte as they were.
+    pub fn of_three_levels(seed: u64) -> Maker {
+        Maker::up_to(seed, MOST_LEVELS_BEFORE)
+    }
+
+    /// A maker of calls whose sound ones have K up to the greatest.
+    fn up_to(seed: u64, greatest: usize) -> Maker {
         Maker {
             random: Random::new(seed),
+            greatest,
             rows: Vec::new(),
             plans: Vec::new(),
             grids: Vec::new(),
@@ -60,13 +77,29 @@ impl Maker {
 
     /// The next call.
     pub fn next_call(&mut self) -> Call {
-        match self.random.below(100) {
-            0..=22 => self.pointer_write(),
-            23..=38 => self.pointer_read(),
-            39..=60 => self.grid_plan(),
-            61..=84 => self.grid_store(),
-            _ => self.grid_read(),
+        let kind = self.random.below(100);
+        if self.greatest == MOST_LEVELS_BEFORE {
+            return match kind {
+                0..=22 => self.pointer_write(),
+                23..=38 => self.pointer_read(),
+                39..=60 => self.grid_plan(),
+                61..=84 => self.grid_store(),
+                _ => self.grid_read(),
+            };
         }
+        match kind {
+            0..=12 => self.pointer_write(),
+            13..=23 => self.pointer_read(),
+            24..=46 => self.grid_plan(),
+            47..=70 => self.grid_store(),
+            71..=84 => self.grid_read(),
+            _ => self.grid_convert(),
+        }
+    }
+
+    /// Whether what a call left is remembered: it was accepted, and its K is one that this maker's calls have.
+    fn is_kept(&self, number: u8, numbers: [u64; 3]) -> bool {
+        number == 0 && numbers[2] <= self.greatest as u64
     }
 
     /// A pointer write; what it stores is remembered if it is accepted.
@@ -110,12 +143,13 @@ impl Maker {
     /// A grid plan; its counters are remembered if it is accepted.
     fn grid_plan(&mut self) -> Call {
         let random = &mut self.random;
+        let greatest = self.greatest;
         let mut call = match recalled(random, &self.plans, 20) {
             Some(plan) => make_plan::further_plan(random, plan),
-            None => make_plan::plan_of_some_grid(random),
+            None => make_plan::plan_of_some_grid(random, greatest),
         };
         for _ in 0..damages(random) {
-            damage_grid::damage_plan(random, &mut call);
+            damage_grid::damage_plan(random, greatest, &mut call);
         }
         let mut after = call.clone();
         let answer = grid::plan(
@@ -125,8 +159,8 @@ impl Maker {
             &after.values,
             &mut after.counters,
         );
-        if answer.number == 0 {
-            keep(random, &mut self.plans, after);
+        if self.is_kept(answer.number, after.numbers) {
+            keep(&mut self.random, &mut self.plans, after);
         }
         Call::GridPlan(call)
     }
@@ -134,18 +168,20 @@ impl Maker {
     /// A grid store, often with the counters of a plan; what it stores is remembered if it is accepted.
     fn grid_store(&mut self) -> Call {
         let random = &mut self.random;
+        let greatest = self.greatest;
         let mut call = match recalled(random, &self.plans, 40) {
             Some(plan) => make_store::store_of_plan(random, plan),
-            None => make_store::some_store(random),
+            None => make_store::some_store(random, greatest),
         };
         if random.percent(15) {
             make_store::change_idle_counters(random, &mut call);
         }
         if random.percent(PERCENT_WITH_BAD_COUNTERS) {
-            damage_counters::put_bad_counters(random, &mut call.numbers, &mut call.counters);
+            let numbers = &mut call.numbers;
+            damage_counters::put_bad_counters(random, greatest, numbers, &mut call.counters);
         }
         for _ in 0..damages(random) {
-            damage_grid::damage_store(random, &mut call);
+            damage_grid::damage_store(random, greatest, &mut call);
         }
         let mut after = call.clone();
         let answer = grid::store(
@@ -156,8 +192,8 @@ impl Maker {
             &after.counters,
             &mut after.cells,
         );
-        if answer.number == 0 {
-            keep(random, &mut self.grids, after);
+        if self.is_kept(answer.number, after.numbers) {
+            keep(&mut self.random, &mut self.grids, after);
         }
         Call::GridStore(call)
     }
@@ -165,16 +201,37 @@ impl Maker {
     /// A grid read, often of what a store left.
     fn grid_read(&mut self) -> Call {
         let random = &mut self.random;
+        let greatest = self.greatest;
         let mut call = match recalled(random, &self.grids, 45) {
             Some(grid) => make_grid::read_of(random, grid),
-            None => make_grid::read_of_some_grid(random),
+            None => make_grid::read_of_some_grid(random, greatest),
         };
         if random.percent(PERCENT_WITH_BAD_COUNTERS) {
-            damage_counters::put_bad_counters(random, &mut call.numbers, &mut call.counters);
+            let numbers = &mut call.numbers;
+            damage_counters::put_bad_counters(random, greatest, numbers, &mut call.counters);
         }
         for _ in 0..damages(random) {
-            damage_grid::damage_read(random, &mut call);
+            damage_grid::damage_read(random, greatest, &mut call);
         }
         Call::GridRead(call)
+    }
+
+    /// A grid convert, often of the counters of a plan or a store.
+    fn grid_convert(&mut self) -> Call {
+        let random = &mut self.random;
+        let planned = recalled(random, &self.plans, 35).map(|plan| (plan.numbers, plan.counters));
+        let stored = recalled(random, &self.grids, 30).map(|grid| (grid.numbers, grid.counters));
+        let mut packed = match planned.or(stored) {
+            Some(packed) => packed,
+            None => make_convert::some_packed(random),
+        };
+        if random.percent(PERCENT_WITH_BAD_COUNTERS) {
+            damage_counters::put_bad_counters(random, self.greatest, &mut packed.0, &mut packed.1);
+        }
+        let mut call = make_convert::conversion_of(random, packed);
+        for _ in 0..damages(random) {
+            damage_convert::damage_convert(random, &mut call);
+        }
+        Call::GridConvert(call)
     }
 }

@@ -4,8 +4,8 @@ use crate::call::{GridRead, GridStore};
 use crate::counters::{packed_counters, Counters, Shape};
 use crate::random::Random;
 
-/// A shape: mostly small, at times a single row or column, one in twenty-five 64 by 64.
-pub fn some_shape(random: &mut Random) -> Shape {
+/// A shape with K up to the greatest: mostly small, at times a single row or column, one in twenty-five 64 by 64.
+pub fn some_shape(random: &mut Random, greatest: usize) -> Shape {
     let (rows, columns) = match random.below(100) {
         0..=3 => (64, 64),
         4..=7 => (1, 1),
@@ -21,7 +21,7 @@ pub fn some_shape(random: &mut Random) -> Shape {
     Shape {
         rows,
         columns,
-        most_levels: random.between(1, 3),
+        most_levels: random.between(1, greatest),
     }
 }
 
@@ -110,8 +110,8 @@ pub fn read_of(random: &mut Random, grid: GridStore) -> GridRead {
 }
 
 /// A read of any cells with any counters up to K, whether or not a plan would make them.
-pub fn read_of_some_grid(random: &mut Random) -> GridRead {
-    let shape = some_shape(random);
+pub fn read_of_some_grid(random: &mut Random, greatest: usize) -> GridRead {
+    let shape = some_shape(random, greatest);
     let counters = some_counters(random, shape);
     GridRead {
         numbers: numbers_of(shape),

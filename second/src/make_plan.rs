@@ -2,16 +2,29 @@
 
 use crate::bits::{bytes_that_hold, word_of};
 use crate::call::GridPlan;
-use crate::counters::counter_bits;
+use crate::counters::{counter_bits, Shape};
 use crate::faults::some_faults;
 use crate::levels::State;
+use crate::make_deep::deep_faults;
 use crate::make_grid::{numbers_of, some_data, some_lines, some_shape};
 use crate::random::Random;
 
-/// A plan for a grid with faults placed on purpose; the old counters hold junk.
-pub fn plan_of_some_grid(random: &mut Random) -> GridPlan {
-    let shape = some_shape(random);
+/// So many plans in a hundred get a chain of a chosen depth, where K goes above 3.
+const PERCENT_DEEP: usize = 60;
+
+/// A plan for a grid with faults placed on purpose and K up to the greatest.
+pub fn plan_of_some_grid(random: &mut Random, greatest: usize) -> GridPlan {
+    if greatest > 3 && random.percent(PERCENT_DEEP) {
+        let (shape, faults) = deep_faults(random, greatest);
+        return plan_of_faults(random, shape, &faults);
+    }
+    let shape = some_shape(random, greatest);
     let faults = some_faults(random, shape.rows, shape.columns, shape.most_levels);
+    plan_of_faults(random, shape, &faults)
+}
+
+/// A plan for a grid with these faults and any data; the old counters hold junk.
+fn plan_of_faults(random: &mut Random, shape: Shape, faults: &[Vec<State>]) -> GridPlan {
     let data = some_data(random, shape.rows, shape.columns);
     let unused = some_lines(random, shape.rows, shape.columns);
     let mut mask = Vec::new();

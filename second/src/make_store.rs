@@ -83,8 +83,8 @@ fn set_stuck_value(call: &mut GridStore, counters: &Counters, place: (usize, usi
 }
 
 /// A store with any counters up to K whose stuck cells all read as their data bits.
-pub fn masking_store(random: &mut Random) -> GridStore {
-    let shape = some_shape(random);
+pub fn masking_store(random: &mut Random, greatest: usize) -> GridStore {
+    let shape = some_shape(random, greatest);
     let counters = some_counters(random, shape);
     let mut call = GridStore {
         numbers: numbers_of(shape),
@@ -105,8 +105,8 @@ pub fn masking_store(random: &mut Random) -> GridStore {
 }
 
 /// Such a store with stuck cells that read wrong: mostly one alone, in a corner or anywhere.
-pub fn misreading_store(random: &mut Random) -> GridStore {
-    let mut call = masking_store(random);
+pub fn misreading_store(random: &mut Random, greatest: usize) -> GridStore {
+    let mut call = masking_store(random, greatest);
     let shape = shape_of(call.numbers);
     let counters = unpacked_counters(shape, &call.counters);
     let count = if random.percent(80) {
@@ -132,8 +132,8 @@ pub fn misreading_store(random: &mut Random) -> GridStore {
 }
 
 /// A store with the faults of some plan and counters that it did not make: all 0, a few changed, or anything.
-pub fn store_with_foreign_counters(random: &mut Random) -> GridStore {
-    let mut plan = plan_of_some_grid(random);
+pub fn store_with_foreign_counters(random: &mut Random, greatest: usize) -> GridStore {
+    let mut plan = plan_of_some_grid(random, greatest);
     let shape = shape_of(plan.numbers);
     let answer = grid::plan(
         plan.numbers,
@@ -157,11 +157,11 @@ pub fn store_with_foreign_counters(random: &mut Random) -> GridStore {
     call
 }
 
-/// A store with foreign counters of any kind.
-pub fn some_store(random: &mut Random) -> GridStore {
+/// A store with foreign counters of any kind and K up to the greatest.
+pub fn some_store(random: &mut Random, greatest: usize) -> GridStore {
     match random.below(3) {
-        0 => masking_store(random),
-        1 => misreading_store(random),
-        _ => store_with_foreign_counters(random),
+        0 => masking_store(random, greatest),
+        1 => misreading_store(random, greatest),
+        _ => store_with_foreign_counters(random, greatest),
     }
 }

@@ -142,7 +142,8 @@ fn no_counter_is_named_beside_another_number() {
             ("A4 read, K = 3", format!("0 0 {}", words("07"))),
             ("A4 store, K = 3", format!("0 3 3 1 2 0 {}", words("07"))),
         ],
-        refused("A4 read, K = 4", "A4 store, K = 4", 1),
+        // In three bits the counters are 5 5, 4 0 0.
+        refused("A4 read, K = 4", "A4 store, K = 4", 4),
         refused("A4 read, K = 0", "A4 store, K = 0", 1),
         refused("A4 read, K = 1", "A4 store, K = 1", 2),
         vec![

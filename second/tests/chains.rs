@@ -2,7 +2,7 @@
 
 use second::answer;
 use second::call::{Call, GridPlan};
-use second::chains::chain_exists;
+use second::chains::longest_chain;
 use second::levels::{states, State};
 
 /// The plan of data 0 whose cells are sound, right or wrong by the digits, base 3, of the pattern.
@@ -21,7 +21,7 @@ fn plan_of(pattern: usize, rows: usize, columns: usize, most_levels: usize) -> G
             rest /= 3;
         }
     }
-    let width = if most_levels == 1 { 1 } else { 2 };
+    let width = [1, 2, 2, 3, 3, 3, 3][most_levels - 1];
     GridPlan {
         numbers: [rows as u64, columns as u64, most_levels as u64],
         data: vec![0; rows],
@@ -79,7 +79,7 @@ fn levels_and_chains_agree_on_all_small_grids() {
         (3, 3),
     ] {
         for pattern in 0..3usize.pow((rows * columns) as u32) {
-            for most_levels in 1..=3 {
+            for most_levels in 1..=7 {
                 let mut call = Call::GridPlan(plan_of(pattern, rows, columns, most_levels));
                 let outcome = answer::make(&mut call).unwrap();
                 assert!(outcome.number == 0 || outcome.number == 7);
@@ -94,8 +94,9 @@ fn the_search_for_chains_agrees_with_walking_them() {
         for pattern in 0..3usize.pow((rows * columns) as u32) {
             let call = plan_of(pattern, rows, columns, 3);
             let grid = states(columns, &call.data, &call.mask, &call.values);
-            for length in 1..=7 {
-                assert_eq!(chain_exists(&grid, length), walked(&grid, length));
+            for length in 1..=15 {
+                let exists = longest_chain(&grid, length) == length;
+                assert_eq!(exists, walked(&grid, length));
             }
         }
     }

@@ -78,6 +78,33 @@ fn plans_print_four_counts_and_stores_an_index_too() {
     assert_eq!(printed(&refused), "13 0 0 0 0 0 0000000000000000\n");
 }
 
+/// A conversion of 2 by 2 from K = 3 to a target, of the counters of G3: the bytes, written out.
+fn conversion_of_g3(target: u8, counters: u8, output: &[u8]) -> Vec<u8> {
+    let mut bytes = vec![6];
+    for number in [2u8, 2, 3, target] {
+        bytes.extend([number, 0, 0, 0, 0, 0, 0, 0]);
+    }
+    bytes.extend([1, 0, counters]);
+    bytes.extend([output.len() as u8, 0]);
+    bytes.extend(output);
+    bytes
+}
+
+#[test]
+fn conversions_print_an_index_and_the_output() {
+    let wider = conversion_of_g3(4, 0x96, &[9, 9]);
+    assert_eq!(wider.len(), 40);
+    // Counters 2 1, 1 2: in three bits 010 001 001 010 from the lowest on, 0x44a.
+    assert_eq!(printed(&wider), "0 0 4a04\n");
+    assert_eq!(printed(&conversion_of_g3(3, 0x96, &[9])), "0 0 96\n");
+    assert_eq!(printed(&conversion_of_g3(2, 0x96, &[9])), "1 0 09\n");
+    assert_eq!(printed(&conversion_of_g3(4, 0x96, &[9])), "2 0 09\n");
+    assert_eq!(printed(&conversion_of_g3(4, 0x96, &[])), "2 0 -\n");
+    for length in 1..wider.len() {
+        assert_eq!(printed(&wider[..length]), "bad call\n");
+    }
+}
+
 #[test]
 fn bad_calls_stop_the_run() {
     let good = one_cell_read();
@@ -87,7 +114,7 @@ fn bad_calls_stop_the_run() {
         let after_good = [&good, &good[..length]].concat();
         assert_eq!(printed(&after_good), format!("{line}bad call\n"));
     }
-    for tag in [0, 6, 255] {
+    for tag in [0, 7, 255] {
         let input = [good.clone(), vec![tag], good.clone()].concat();
         assert_eq!(printed(&input), format!("{line}bad call\n"));
     }
@@ -142,6 +169,14 @@ fn cases_run_to_the_end() {
 }
 
 #[test]
+fn cases_of_seven_levels_run_to_the_end() {
+    let cases = second(&["levels"], &[]).stdout;
+    let lines = printed(&cases);
+    assert_eq!(lines.lines().count(), 821);
+    assert!(!lines.contains("bad call"));
+}
+
+#[test]
 fn long_calls_print_one_line_each() {
     let calls = second(&["long"], &[]).stdout;
     assert_eq!(calls, second(&["long"], &[]).stdout);
@@ -152,7 +187,13 @@ fn long_calls_print_one_line_each() {
 
 #[test]
 fn unknown_commands_fail() {
-    for arguments in [&[][..], &["walk"], &["make", "1"], &["make", "x", "1"]] {
+    for arguments in [
+        &[][..],
+        &["walk"],
+        &["make", "1"],
+        &["make", "x", "1"],
+        &["make", "1", "1", "4"],
+    ] {
         assert!(!second(arguments, &[]).status.success());
     }
 }

@@ -25,6 +25,7 @@ fn lengths(call: &Call) -> Vec<usize> {
             c.counters.len(),
             c.cells.len(),
         ],
+        Call::GridConvert(c) => vec![c.counters.len(), c.output.len()],
     }
 }
 
@@ -59,6 +60,7 @@ fn shorten(call: &mut Call) {
             c.counters.truncate(2);
             c.output.truncate(3);
         }
+        Call::GridConvert(_) => unreachable!("no conversion is among the long calls"),
     }
 }
 

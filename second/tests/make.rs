@@ -12,12 +12,13 @@ use second::pointer::active_entries;
 const COUNT: usize = 40_000;
 
 /// The answers that each tag can give.
-const CAN_BE_GIVEN: [(usize, &[u8]); 5] = [
+const CAN_BE_GIVEN: [(usize, &[u8]); 6] = [
     (1, &[0, 1, 2, 3, 4, 5, 6]),
     (2, &[0, 1, 2, 3, 4, 5]),
     (3, &[0, 1, 2, 3, 7]),
     (4, &[0, 1, 2, 3, 4]),
     (5, &[0, 1, 2, 3, 4, 13]),
+    (6, &[0, 1, 2, 3, 4]),
 ];
 
 /// The bytes of so many calls of a seed.
@@ -38,6 +39,7 @@ fn tag(call: &Call) -> usize {
         Call::GridPlan(_) => 3,
         Call::GridRead(_) => 4,
         Call::GridStore(_) => 5,
+        Call::GridConvert(_) => 6,
     }
 }
 
@@ -143,7 +145,7 @@ fn every_answer_comes_up_often() {
     }
     assert_eq!(numbers.keys().copied().collect::<Vec<_>>(), seen);
     for (tag, refusal) in [(3, 7), (5, 13)] {
-        for k in 1..=3 {
+        for k in 1..=7 {
             let all: i32 = levels
                 .iter()
                 .filter(|(key, _)| key.0 == tag && key.1 == k)

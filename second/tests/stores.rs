@@ -25,14 +25,14 @@ fn words(cells: &[bool], columns: usize) -> Vec<u64> {
     words
 }
 
-/// Counters as one byte holds them.
-fn packed(counters: &[usize], most_levels: usize) -> u8 {
-    let width = if most_levels == 1 { 1 } else { 2 };
-    let mut byte = 0;
+/// Counters as two bytes hold them, or one if that is enough.
+fn packed(counters: &[usize], most_levels: usize) -> Vec<u8> {
+    let width = [1, 2, 2, 3, 3, 3, 3][most_levels - 1];
+    let mut number: usize = 0;
     for (place, counter) in counters.iter().enumerate() {
-        byte |= counter << (place * width);
+        number |= counter << (place * width);
     }
-    byte as u8
+    number.to_le_bytes()[..(counters.len() * width).div_ceil(8)].to_vec()
 }
 
 /// L of the plan of an accepted store's block; no plan refuses a block that some counters up to K mask.
@@ -65,7 +65,7 @@ fn check(
     let mut stored = Vec::new();
     for place in 0..rows * columns {
         let smaller = counters[place / columns].min(counters[rows + place % columns]);
-        let to_hold = ones[place] != (smaller == 1 || smaller == 3);
+        let to_hold = ones[place] != (smaller % 2 == 1);
         misread |= stuck[place] && at_1[place] != to_hold;
         stored.push(to_hold);
     }
@@ -74,7 +74,7 @@ fn check(
         data: words(&ones, columns),
         mask: words(&stuck, columns),
         values: words(&at_1, columns),
-        counters: vec![packed(counters, k)],
+        counters: packed(counters, k),
         cells: vec![u64::MAX; rows],
     });
     let outcome = answer::make(&mut call).unwrap();
@@ -104,7 +104,9 @@ fn check(
 fn stores_of_small_blocks_with_all_counters() {
     for (rows, columns) in [(1, 1), (1, 2), (2, 1), (1, 3), (3, 1), (2, 2)] {
         let places = rows * columns;
-        for k in 1..=3 {
+        // With more counters there are too many for a large K.
+        let most_k = if rows + columns < 4 { 7 } else { 3 };
+        for k in 1..=most_k {
             for number in 0..(k + 1usize).pow((rows + columns) as u32) {
                 let counters = digits(number, k + 1, rows + columns);
                 for pattern in 0..3usize.pow(places as u32) {

@@ -138,9 +138,9 @@ small-form tag = small-at table refl tag
 pub small-by : {f : Form} (tag : ℕ) → f ≡ formOf tag → Small f
 small-by tag e = subst Small (sym e) (small-form tag)
 
-pub no-form : (tag : ℕ) → (tag ≡ 1 → ⊥) → (tag ≡ 2 → ⊥) → (tag ≡ 3 → ⊥) → (tag ≡ 4 → ⊥) → (tag ≡ 5 → ⊥) → noForm ≡ formOf tag
+pub no-form : (tag : ℕ) → (tag ≡ 1 → ⊥) → (tag ≡ 2 → ⊥) → (tag ≡ 3 → ⊥) → (tag ≡ 4 → ⊥) → (tag ≡ 5 → ⊥) → (tag ≡ 6 → ⊥) → noForm ≡ formOf tag
 unfolding formOf table
-no-form tag a b c d e =
+no-form tag a b c d e f =
     elim (decLt tag 1) [
       | yes l ↦ let z : tag ≡ 0 = omega arith in rw z
       | no l ↦ sym (List·getD-eq-default table noForm {n = tag} (omega arith))

@@ -11,13 +11,14 @@ use Rattle.bits.specs.Bits.{list}
 use Rattle.bits.proofs.BoundLaws.{list-ext, getD-list, length-list}
 use Rattle.pointer_promises.proofs.Unique as pointer
 use Rattle.grid_promises.proofs.OneAnswer as grid
+use Rattle.grid_promises.proofs.OneConversion.{one-convert}
 use Rattle.wire.specs.Numbers.{numberAt}
 use Rattle.wire.specs.Text.{decimal}
 use Rattle.wire.proofs.NumberLaws.{number-before}
 use Rattle.wire.proofs.TextLaws.{length-decimals}
 use Rattle.calls.specs.Format.{callNumber, many, Stands, elements, formOf, width, place, numbersOf, buffersOf, callEnd, Whole}
 use Rattle.calls.specs.Text.{bufferText, line}
-use Rattle.calls.specs.Calls.{counts, LineBy, LineAt, LineOf, pointerWrite, pointerRead, gridPlan, gridRead, gridStore, OneLine}
+use Rattle.calls.specs.Calls.{counts, LineBy, LineAt, LineOf, pointerWrite, pointerRead, gridPlan, gridRead, gridStore, gridConvert, OneLine}
 use Rattle.calls.proofs.FormatLaws.{stands-at, number-stands}
 use Rattle.calls.proofs.StreamLaws.{place-more, tag-more}
 use Rattle.calls.proofs.ElementLaws.{length-elements}
@@ -77,6 +78,7 @@ few-short tag f (pointerRead _ o) = short _ (bytes _ (omega (arith, f 2)) none) 
 few-short tag f (gridPlan _ c) = short _ (count _ (count _ (count _ (count _ (bytes _ (omega (arith, f 3)) none))))) (lit≤ tt) (lit≤ tt)
 few-short tag f (gridRead _ o) = short _ (count _ (words _ (omega (arith, f 2)) none)) (lit≤ tt) (lit≤ tt)
 few-short tag f (gridStore _ c) = short _ (count _ (count _ (count _ (count _ (count _ (words _ (omega (arith, f 4)) none)))))) (lit≤ tt) (lit≤ tt)
+few-short tag f (gridConvert _ o) = short _ (count _ (bytes _ (omega (arith, f 1)) none)) (lit≤ tt) (lit≤ tt)
 
 few : (bs : List ℕ) (tag : ℕ) → Whole bs tag → (i : ℕ) → length (getD (buffersOf bs tag) i []) ≤ 1024
 few bs tag h i =
@@ -105,6 +107,8 @@ one-by-tag tag (gridRead l _) (gridRead m _) =
 one-by-tag tag (gridStore l _) (gridStore m _) =
     let (a, c) = grid.one-store _ _ _ _ _ _ _ _ (l .exactly) (m .exactly) in
     λ i. line (decimal (a i .number)) (counts (a i) ++ (decimal (a i .index) ∷ bufferText 16 (c i) ∷ []))
+one-by-tag tag (gridConvert l _) (gridConvert m _) =
+    let (a, o) = one-convert _ _ _ _ _ _ _ _ _ _ (l .exactly) (m .exactly) in λ i. line (decimal (a i .number)) (decimal (a i .index) ∷ bufferText 2 (o i) ∷ [])
 
 pub one-line : OneLine
 one-line bs text text′ l m = one-by-tag (getD bs 0 0) l m

@@ -8,6 +8,7 @@ use Rattle.io.specs.Counts.{Counts}
 use Rattle.pointer_promises.specs.Promises as pointer
 use Rattle.grid_promises.specs.Promises as grid
 use Rattle.grid_promises.specs.Calls.{block}
+use Rattle.grid_promises.specs.Conversion.{Convert}
 use Rattle.grid_promises.specs.declared.Answer.{Answer}
 use Rattle.calls.specs.Format.{many, elements, numbersOf, buffersOf, callEnd}
 use Rattle.wire.specs.Text.{decimal, Put}
@@ -53,6 +54,11 @@ pub data LineBy : ℕ → List ℕ → List (List ℕ) → List ℕ → Type 0 w
       → length cells′ ≡ length cells
       → LineBy 5 (rows ∷ columns ∷ k ∷ []) (wanted ∷ mask ∷ values ∷ counters ∷ cells ∷ [])
       (line (decimal (answer .number)) (counts answer ++ (decimal (answer .index) ∷ bufferText 16 cells′ ∷ [])))
+  gridConvert : {rows columns k target number index : ℕ} {counters out out′ : List ℕ}
+      → Convert rows columns k target counters out (record { number = number; index = index }) out′
+      → length out′ ≡ length out
+      → LineBy 6 (rows ∷ columns ∷ k ∷ target ∷ []) (counters ∷ out ∷ [])
+      (line (decimal number) (decimal index ∷ bufferText 2 out′ ∷ []))
 
 -- the same of a call that stands at the front of the bytes, with its tag and whatever it is
 abbrev pub LineAt : List ℕ → ℕ → List ℕ → Type 0

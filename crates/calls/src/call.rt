@@ -141,6 +141,26 @@ fn grid_store(s: &[u8], out: &mut [u8], put: usize) -> usize
     put_end(out, e)
 }
 
+fn grid_convert(s: &[u8], out: &mut [u8], put: usize) -> usize
+    requires { ⌜ Whole (now s) 6 ⌝ }
+    ensures { λ r. ⌜ PutLine (LineAt (now (s .entry)) 6) (now (out .entry)) put (now (out .exit)) r ⌝ }
+{
+    let mut converted = [0u8; MOST_ELEMENTS];
+    let i = load_bytes(s, 6, 1, &mut converted);
+    let r = grid::convert(
+        call_number(s, 0),
+        call_number(s, 1),
+        call_number(s, 2),
+        call_number(s, 3),
+        elements(s, 6, 0),
+        &mut converted[..i],
+    );
+    let a = put_number(out, put, r.number);
+    let b = put_count(out, a, r.index);
+    let c = put_bytes(out, b, &converted[..i]);
+    put_end(out, c)
+}
+
 // Makes a call with this tag, and puts its line.
 fn answer(s: &[u8], tag: u8, out: &mut [u8], put: usize) -> usize
     requires { ⌜ Whole (now s) tag ⌝ }
@@ -152,6 +172,7 @@ fn answer(s: &[u8], tag: u8, out: &mut [u8], put: usize) -> usize
         3 => grid_plan(s, out, put),
         4 => grid_read(s, out, put),
         5 => grid_store(s, out, put),
+        6 => grid_convert(s, out, put),
         _ => put,
     }
 }

@@ -12,7 +12,7 @@ use Rattle.pointer_promises.specs.Pointer.{active, held, encode, verdict}
 use Rattle.pointer_promises.specs.Refusals.{InRange, outOfRange}
 use Rattle.pointer_promises.proofs.FormedLaws.{active-is}
 use Rattle.pointer_promises.proofs.RefusalLaws.{range-iff}
-use Rattle.cases.specs.Lines.{Line, Call, metadata, pointerRead, pointerWrite, gridRead, gridPlan, gridStore, byNumber, countersIn, counted, uncounted, readRefused, storeRefused, line}
+use Rattle.cases.specs.Lines.{Line, Call, metadata, pointerRead, pointerWrite, gridRead, gridPlan, gridStore, gridConvert, byNumber, countersIn, counted, uncounted, readRefused, storeRefused, line}
 use Rattle.cases.specs.Statements.{answered, Promised}
 
 -- an ending x with the number of its call is what the number says
@@ -87,6 +87,14 @@ promised-store b k counters cells answer cells′ w =
     })
     (λ z. let (c, u) = e .untouched (omega arith) in λ i. record { numbers = none-counted answer _ c (e .indexIs) i; buffers = u i ∷ [] })
 
+promised-convert : (m n k k′ : ℕ) (counters out : List ℕ) → Promised (gridConvert m n k k′ counters out) (line (gridConvert m n k k′ counters out))
+unfolding line
+promised-convert m n k k′ counters out answer out′ r =
+    let e = r .exactly in
+    by-number (answer .number) _ _ _ (λ x. record { numbers = readRefused m n k counters x; buffers = out ∷ [] }) (e .number)
+    (λ z i. record { numbers = z i ∷ r .demands .names .none (λ f. omega (arith, z)) i ∷ []; buffers = e .bytesAre z i ∷ [] })
+    (λ z i. record { numbers = answer .number ∷ e .indexIs i ∷ []; buffers = e .untouched (omega arith) i ∷ [] })
+
 -- so every call's line is promised
 pub promised : (c : Call) → Promised c (line c)
 promised (metadata n es) = promised-metadata n es
@@ -95,3 +103,4 @@ promised (pointerWrite n wanted mask values cells m) = promised-write n wanted m
 promised (gridRead m n k cells counters out) = promised-grid-read m n k cells counters out
 promised (gridPlan b k counters) = promised-plan b k counters
 promised (gridStore b k counters cells) = promised-store b k counters cells
+promised (gridConvert m n k k′ counters out) = promised-convert m n k k′ counters out

@@ -10,6 +10,7 @@ use Rattle.rdis.specs.Levels.{plan}
 use Rattle.rdis.specs.Cells.{stored, reading}
 use Rattle.rdis.specs.Packing.{width, inOrder, packed, unpacked, counter, rowCounter, columnCounter}
 use Rattle.grid_promises.specs.Calls.{readNumber, planNumber, storeNumber, used, rowsOf, columnsOf, badIndex}
+use Rattle.grid_promises.specs.Conversion.{convertNumber}
 use Rattle.pointer_promises.specs.Pointer as pointer
 
 -- a line: the number and the other figures of the answer, and the buffers afterwards
@@ -31,6 +32,8 @@ pub data Call : Type 0 where
   gridRead : (m n k : ℕ) (cells counters out : List ℕ) → Call
   gridPlan : Block → ℕ → (counters : List ℕ) → Call
   gridStore : Block → ℕ → (counters cells : List ℕ) → Call
+  -- a conversion of the counters of rows and columns from K to a target
+  gridConvert : (m n k k′ : ℕ) (counters out : List ℕ) → Call
 
 -- by the number: the first where it is 0, so where the call is accepted, else the second
 abbrev pub byNumber : {A : Type 0} → ℕ → A → A → A
@@ -49,7 +52,7 @@ counted b l = 0 ∷ l ∷ faults (b .rows) (b .mask) ∷ faultyCells b true ∷ 
 abbrev pub uncounted : ℕ → ℕ → List ℕ
 uncounted number index = number ∷ 0 ∷ 0 ∷ 0 ∷ 0 ∷ index ∷ []
 
--- those of a refused read, and of a refused store, with this number
+-- those of a refused read or conversion, and of a refused store, with this number
 abbrev pub readRefused : (m n k : ℕ) (counters : List ℕ) → ℕ → List ℕ
 readRefused m n k counters number = number ∷ badIndex k (m + n) counters number ∷ []
 
@@ -94,3 +97,7 @@ line (gridStore b k counters cells) =
       buffers = stored b (rowCounter (width k) counters) (columnCounter (width k) (b .rows) counters) ∷ [];
     })
     (record { numbers = storeRefused b k counters (storeNumber b k counters (length cells)); buffers = cells ∷ [] })
+line (gridConvert m n k k′ counters out) =
+    byNumber (convertNumber m n k k′ counters (length out))
+    (record { numbers = 0 ∷ 0 ∷ []; buffers = packed (width k′) (unpacked (width k) (m + n) counters) ∷ [] })
+    (record { numbers = readRefused m n k counters (convertNumber m n k k′ counters (length out)); buffers = out ∷ [] })

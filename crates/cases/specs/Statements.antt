@@ -4,16 +4,20 @@ use Prim.Native.Nat.{ℕ}
 use mathlib.Core.Path.{_≡_}
 use mathlib.Core.List.{List, [], _∷_, map}
 use Rattle.grid_promises.specs.Promises as grid
+use Rattle.grid_promises.specs.Conversion.{Convert}
 use Rattle.grid_promises.specs.declared.ReadAnswer as gridReadAnswer
+use Rattle.grid_promises.specs.declared.ConvertAnswer.{ConvertAnswer}
 use Rattle.grid_promises.specs.declared.Answer as gridAnswer
 use Rattle.pointer_promises.specs.Pointer.{held, after, verdict}
 use Rattle.pointer_promises.specs.Promises as pointer
 use Rattle.pointer_promises.specs.declared.ReadAnswer.{ReadAnswer}
 use Rattle.pointer_promises.specs.declared.WriteAnswer.{WriteAnswer}
-use Rattle.cases.specs.Lines.{Line, Call, metadata, pointerRead, pointerWrite, gridRead, gridPlan, gridStore, byNumber, countersIn, line}
+use Rattle.cases.specs.Lines.{Line, Call, metadata, pointerRead, pointerWrite, gridRead, gridPlan, gridStore, gridConvert, byNumber, countersIn, line}
 use Rattle.cases.specs.Table.{Row, table}
 use Rattle.cases.specs.Edges.{rowEdges, readEdges, planEdges, storeEdges}
 use Rattle.cases.specs.IndexEdges.{indexEdges}
+use Rattle.cases.specs.LevelEdges.{levelEdges}
+use Rattle.cases.specs.ConvertEdges.{convertEdges}
 
 -- each of these calls comes to its line
 abbrev pub Computed : List Row → Type 0
@@ -23,7 +27,7 @@ abbrev pub EveryCase : Type 0
 EveryCase = Computed table
 
 abbrev pub EveryEdge : Type 0
-EveryEdge = Computed rowEdges × Computed readEdges × Computed planEdges × Computed storeEdges × Computed indexEdges
+EveryEdge = Computed rowEdges × Computed readEdges × Computed planEdges × Computed storeEdges × Computed indexEdges × Computed levelEdges × Computed convertEdges
 
 -- what a plan or a store answers: the number, the counts and the index
 abbrev pub answered : gridAnswer.Answer → List ℕ
@@ -51,6 +55,9 @@ Promised (gridPlan b k counters) l =
 Promised (gridStore b k counters cells) l =
     (answer : gridAnswer.Answer) (cells′ : List ℕ) → grid.Store b k counters cells answer cells′
     → record { numbers = answered answer; buffers = cells′ ∷ [] } ≡ l
+Promised (gridConvert m n k k′ counters out) l =
+    (answer : ConvertAnswer) (out′ : List ℕ) → Convert m n k k′ counters out answer out′
+    → record { numbers = answer .number ∷ answer .index ∷ []; buffers = out′ ∷ [] } ≡ l
 
 -- each of these rows is promised
 abbrev pub Every : List Row → Type 0
@@ -58,4 +65,4 @@ Every [] = Unit {0}
 Every (r ∷ rs) = Promised (r .call) (r .expected) × Every rs
 
 abbrev pub EveryPromise : Type 0
-EveryPromise = Every table × Every rowEdges × Every readEdges × Every planEdges × Every storeEdges × Every indexEdges
+EveryPromise = Every table × Every rowEdges × Every readEdges × Every planEdges × Every storeEdges × Every indexEdges × Every levelEdges × Every convertEdges

@@ -1,5 +1,5 @@
--- The starred cases of document 01, in its order, and G10: a grid's as a plan and, where that is accepted, a store by its counters. Old cells, counters and
--- outputs are odd on purpose: a refusal has to leave them. Assumes nothing.
+-- The starred cases of document 01, in its order, then G10, and a staircase of seven levels: a grid's as a plan and, where that is accepted, a store by its
+-- counters. Old cells, counters and outputs are odd on purpose: a refusal has to leave them. Assumes nothing.
 use Prim.Native.Nat.{ℕ}
 use mathlib.Core.Bool.{true, false}
 use mathlib.Core.List.{List, [], _∷_}
@@ -37,6 +37,18 @@ G6 = block 3 3 (0 ∷ 0 ∷ 0 ∷ []) (3 ∷ 6 ∷ 4 ∷ []) (1 ∷ 2 ∷ 4 ∷ 
 
 abbrev pub G8 : Block
 G8 = block 2 2 (0 ∷ 0 ∷ []) (3 ∷ 2 ∷ []) (2 ∷ 0 ∷ [])
+
+-- G6 grown to seven steps: cell (i, i) is stuck at 1, and the one to its right at 0
+abbrev pub staircase : Block
+staircase = block 7 7 (replicate 7 0) (0x03 ∷ 0x06 ∷ 0x0C ∷ 0x18 ∷ 0x30 ∷ 0x60 ∷ 0x40 ∷ []) (0x01 ∷ 0x02 ∷ 0x04 ∷ 0x08 ∷ 0x10 ∷ 0x20 ∷ 0x40 ∷ [])
+
+-- the bytes of its counters, three bits each
+abbrev pub staircaseCounters : List ℕ
+staircaseCounters = 0xA2 ∷ 0xDF ∷ 0x25 ∷ 0xEB ∷ 0x4D ∷ 0x01 ∷ []
+
+-- what its cells hold by them
+abbrev pub staircaseCells : List ℕ
+staircaseCells = 0x01 ∷ 0x03 ∷ 0x07 ∷ 0x0F ∷ 0x1F ∷ 0x3F ∷ 0x7F ∷ []
 
 -- ---- plans and stores
 
@@ -110,6 +122,10 @@ table =
     ∷ record { call = planSmall G5 1; expected = refused 7 (9 ∷ []) }
     ∷ record { call = planSmall G5 2; expected = refused 7 (9 ∷ []) }
     ∷ record { call = planSmall G5 3; expected = refused 7 (9 ∷ []) }
+    ∷ record { call = gridPlan G5 4 (9 ∷ 9 ∷ []); expected = refused 7 (9 ∷ 9 ∷ []) }
+    ∷ record { call = gridPlan G5 5 (9 ∷ 9 ∷ []); expected = refused 7 (9 ∷ 9 ∷ []) }
+    ∷ record { call = gridPlan G5 6 (9 ∷ 9 ∷ []); expected = refused 7 (9 ∷ 9 ∷ []) }
+    ∷ record { call = gridPlan G5 7 (9 ∷ 9 ∷ []); expected = refused 7 (9 ∷ 9 ∷ []) }
     -- G6: three levels, and two are too few
     ∷ record { call = gridPlan G6 3 (9 ∷ 9 ∷ []); expected = planned 3 5 3 2 (0x5E ∷ 0x0B ∷ []) (2 ∷ 3 ∷ 1 ∷ 1 ∷ 3 ∷ 2 ∷ []) }
     ∷ record { call = gridStore G6 3 (0x5E ∷ 0x0B ∷ []) (7 ∷ 8 ∷ 9 ∷ []); expected = stores 3 5 3 2 (1 ∷ 3 ∷ 7 ∷ []) }
@@ -122,4 +138,9 @@ table =
     ∷ record { call = gridRead 2 2 2 (3 ∷ 3 ∷ []) (0xC0 ∷ []) (7 ∷ 8 ∷ []); expected = readNames 3 (7 ∷ 8 ∷ []) }
     ∷ record { call = storeSmall G3 2 0x57; expected = storeNames 0 (7 ∷ 8 ∷ []) }
     ∷ record { call = storeSmall G3 2 0xC0; expected = storeNames 3 (7 ∷ 8 ∷ []) }
+    -- the staircase: seven levels, of thirteen stuck cells, and six are too few
+    ∷ record { call = gridPlan staircase 7 (replicate 6 9); expected = planned 7 13 7 6 staircaseCounters (2 ∷ 4 ∷ 6 ∷ 7 ∷ 5 ∷ 3 ∷ 1 ∷ 1 ∷ 3 ∷ 5 ∷ 7 ∷ 6 ∷ 4 ∷ 2 ∷ []) }
+    ∷ record { call = gridStore staircase 7 staircaseCounters (replicate 7 9); expected = stores 7 13 7 6 staircaseCells }
+    ∷ record { call = gridRead 7 7 7 staircaseCells staircaseCounters (replicate 7 9); expected = record { numbers = 0 ∷ 0 ∷ []; buffers = replicate 7 0 ∷ [] } }
+    ∷ record { call = gridPlan staircase 6 (replicate 6 9); expected = refused 7 (replicate 6 9) }
     ∷ []

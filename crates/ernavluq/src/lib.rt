@@ -1,8 +1,9 @@
-// The five calls for programs in C and Rust, in the archive libernavluq.a. Each promises what the call behind it does; include/ernavluq.h declares them.
+// The six calls for programs in C and Rust, in the archive libernavluq.a. Each promises what the call behind it does; include/ernavluq.h declares them.
 // Their names have a prefix, because nothing keeps an exported name apart from those of the C library.
 ghost use Rattle.pointer_promises.specs.Promises as Pointer;
 ghost use Rattle.grid_promises.specs.Promises as Grid;
 ghost use Rattle.grid_promises.specs.Calls.{block};
+ghost use Rattle.grid_promises.specs.Conversion.{Convert};
 
 #[no_mangle]
 pub extern "C" fn ernavluq_pointer_read(
@@ -73,4 +74,18 @@ pub extern "C" fn ernavluq_grid_store(
     ensures { λ r. ⌜ Grid.Store (block rows columns (now («data» .entry)) (now (mask .entry)) (now (values .entry))) k (now (counters .entry)) (now (cells .entry)) r (now (cells .exit)) ⌝ }
 {
     grid::store(rows, columns, k, data, mask, values, counters, cells)
+}
+
+#[no_mangle]
+pub extern "C" fn ernavluq_grid_convert(
+    rows: usize,
+    columns: usize,
+    k: usize,
+    to: usize,
+    counters: &[u8],
+    out: &mut [u8],
+) -> grid_promises::ConvertAnswer
+    ensures { λ r. ⌜ Convert rows columns k to (now (counters .entry)) (now (out .entry)) r (now (out .exit)) ⌝ }
+{
+    grid::convert(rows, columns, k, to, counters, out)
 }

@@ -6,3 +6,4 @@ pub mod ShowLaws
 pub mod MisreadLaws
 pub mod PlanLaws
 pub mod StoreLaws
+pub mod ConvertLaws

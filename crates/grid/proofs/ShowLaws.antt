@@ -1,15 +1,13 @@
 -- What a code proof cites at each return of a read with its greatest counter: from the tests' values and the counters' sets to the whole promise. Assumes nothing.
 use Prim.Native.Nat.{ℕ, _+_, _<_, _≤_}
 use mathlib.Core.Path.{_≡_, refl, sym, ap, ap₂, subst, _∙_}
-use mathlib.Core.Bool.{Bool, true, false, not, xor, cond}
+use mathlib.Core.Bool.{true, false, not, xor, cond}
 use mathlib.Core.List.{List}
 use native.Mathlib.Omega.{arith}
-use borrow.Author.Tests.{ltb-false}
 use lib.ListN.{length, getD}
-use lib.Dec.{ltb}
 use Rattle.bits.specs.Bits.{most}
 use Rattle.bits.proofs.TestLaws.{xor-false}
-use Rattle.bits.proofs.BoundLaws.{none-below, most-at}
+use Rattle.bits.proofs.BoundLaws.{most-at}
 use Rattle.bits.proofs.BitLaws.{has-high}
 use Rattle.bits.proofs.ByteLaws.{words-narrow}
 use Rattle.rdis.specs.Block.{bit}
@@ -19,7 +17,7 @@ use Rattle.grid_sets.specs.Sets.{odd, filled}
 use Rattle.grid_sets.proofs.SetLaws.{odd-flips, odd-past, filled-most}
 use Rattle.grid_counters.specs.Promises.{roomy, unpackNumber, Unpack}
 use Rattle.grid_counters.specs.declared.Counters.{Counters}
-use Rattle.grid_counters.proofs.PromiseLaws.{is-roomy}
+use Rattle.grid_counters.proofs.PromiseLaws.{is-roomy, accepts, none-above-k}
 use Rattle.grid_promises.specs.Calls.{inRange, past, readSized, readNumber, badIndex}
 use Rattle.grid_promises.specs.Refusals.{InRange, ReadLengths}
 use Rattle.grid_promises.proofs.RefusalLaws.{in-range, read-sized, within}
@@ -31,12 +29,6 @@ use Rattle.grid_checks.specs.Numbers.{judged, readJudged}
 use Rattle.grid.specs.declared.shows.Shown.{Shown}
 use Rattle.grid.specs.Steps.{ShowSized, Shows}
 use Rattle.grid.proofs.Returns.{stands, passes, not-four}
-
--- counters that are accepted have no spare bit that is 1, and none is above K
-pub accepts : (s a : Bool) → cond {A = ℕ} (not s) 3 (cond a 4 0) ≡ 0 → (s ≡ true) × (a ≡ false)
-accepts true true e = absurd (omega arith)
-accepts true false e = (refl, refl)
-accepts false a e = absurd (omega arith)
 
 module _ (m n k : ℕ) (cells counters out : List ℕ) where
   refused-show : (s : Shown) → s .levels ≡ 0 → s .index ≡ badIndex k (m + n) counters (s .number) → (s .number ≡ 0 → ⊥)
@@ -107,10 +99,7 @@ module _ (n k : ℕ) (cells counters out : List ℕ) (p : ShowSized n k cells co
 
     module _ (z : c .number ≡ 0) where
       low : (t : ℕ) → t < length cells + n → counter (width k) counters t ≤ k
-      unfolding above
-      low t l =
-          let none = accepts (spareClear (width k) (length cells + n) counters) (above k (length cells + n) counters) (sym number-is ∙ z) .1 in
-          omega (arith, ltb-false k (counter (width k) counters t) (none-below (length cells + n) (λ t. ltb k (counter (width k) counters t)) none t l))
+      low = none-above-k k (length cells + n) counters (accepts (spareClear (width k) (length cells + n) counters) (above k (length cells + n) counters) (sym number-is ∙ z) .1)
 
       cell-inside : (i j : ℕ) → i < length cells → j < n
           → invertedBy (c .rows) (c .columns) k cells i j ≡ xor (flips (rowCounter (width k) counters) (columnCounter (width k) (length cells) counters) i j) (bit cells i j)

@@ -17,6 +17,7 @@ use Rattle.rdis.specs.Block.{Block, bit, stuck}
 use Rattle.rdis.specs.Cells.{flips, reading, misread, misreads}
 use Rattle.rdis.specs.Packing.{width, rowCounter, columnCounter, above, spareClear}
 use Rattle.rdis.proofs.CellLaws.{length-reading, stored-inverted}
+use Rattle.grid_counters.proofs.PromiseLaws.{accepts}
 use Rattle.grid_promises.specs.Calls.{inRange, past, readNumber, block, planPast, storeSized, storeNumber, badIndex}
 use Rattle.grid_promises.specs.Refusals.{StoreLengths}
 use Rattle.grid_promises.specs.Promises.{Store}
@@ -28,7 +29,6 @@ use Rattle.grid_checks.specs.Numbers.{judged, storeJudged}
 use Rattle.grid.specs.declared.shows.Shown.{Shown}
 use Rattle.grid.specs.Steps.{blockOf, Rows, StoreSized, Refuses, Accepts, Shows, anyDiffers}
 use Rattle.grid.proofs.Returns.{stands, passes, not-four, none-of, mask-inside}
-use Rattle.grid.proofs.ShowLaws.{accepts}
 
 refused-store : (b : Block) (k : ℕ) (counters cells : List ℕ) (a : Answer) (x t : ℕ) → (x ≡ 0 → ⊥) → x ≡ storeNumber b k counters (length cells)
     → t ≡ badIndex k (b .rows + b .columns) counters x → Refuses x t a → Store b k counters cells a cells

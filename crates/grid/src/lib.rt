@@ -7,6 +7,7 @@ mod stores;
 use crate::answers::accepted;
 use crate::answers::refused;
 use grid_promises::Answer;
+use grid_promises::ConvertAnswer;
 use grid_promises::ReadAnswer;
 use grid_sets::LINES;
 use refusals::ACCEPTED;
@@ -18,6 +19,7 @@ ghost use mathlib.Core.Bool.{false};
 ghost use lib.ListN.{length};
 ghost use Rattle.grid_promises.specs.Promises.{Read, Plan, Store};
 ghost use Rattle.grid_promises.specs.Calls.{block, planPast};
+ghost use Rattle.grid_promises.specs.Conversion.{Convert};
 ghost use Rattle.grid.specs.Steps.{PlanSized, StoreSized};
 
 // Reads a block into `out` by its counters, whoever made them.
@@ -184,4 +186,26 @@ fn store_by(
     // Where no stuck cell reads wrong, the inverted data has the stuck values.
     words::copy(apart, cells);
     accepted(s.levels, data, mask, values)
+}
+
+// Converts a block's counters from K to the target `to`, an equal or a larger one; or refuses. Each counter keeps its number.
+pub fn convert(
+    rows: usize,
+    columns: usize,
+    k: usize,
+    to: usize,
+    counters: &[u8],
+    out: &mut [u8],
+) -> ConvertAnswer
+    ensures { λ r. ⌜ Convert rows columns k to (now (counters .entry)) (now (out .entry)) r (now (out .exit)) ⌝ }
+{
+    let number = grid_checks::convert_number(rows, columns, k, to, counters.len(), out.len());
+    if number != ACCEPTED {
+        return ConvertAnswer { number, index: 0 };
+    }
+    let c = grid_counters::convert(k, to, rows, columns, counters, out);
+    ConvertAnswer {
+        number: c.number,
+        index: c.index,
+    }
 }

@@ -1,6 +1,6 @@
 -- Laws of what is judged before a block is worked on. Assumes nothing.
-use mathlib.Core.Path.{_≡_, refl, sym, ap, _∙_}
-use mathlib.Core.Bool.{Bool, true, false, not, cond, _&&_, _||_}
+use mathlib.Core.Path.{_≡_, refl, sym, ap, ap₂, _∙_}
+use mathlib.Core.Bool.{Bool, true, false, not, cond, _&&_, _||_, and-true, and-comm}
 use mathlib.Core.List.{List}
 use mathlib.Core.Logic.{_⊎_, inl, inr}
 use Prim.Native.Nat.{ℕ, _+_, _*_, _%_, _^_, _≤_, _<_}
@@ -9,17 +9,19 @@ use native.Mathlib.Numerals.{add-one}
 use native.Mathlib.Omega.{arith}
 use borrow.Author.Tests.{le-leb, lt-leb}
 use lib.Bits.{bitOr, or-lt, or-add-and, and-le-l, and-le-r}
-use lib.Dec.{leb, ltb}
+use lib.Dec.{eqb, leb, ltb}
 use lib.ListN.{length, getD}
 use lib.Pow.{pow-pos, pow-mono}
 use Rattle.bits.specs.Bits.{some, Below}
-use Rattle.bits.proofs.TestLaws.{lt-or-le, ltb-not}
+use Rattle.bits.proofs.TestLaws.{clash, lt-or-le, ltb-not, and-left}
 use Rattle.bits.proofs.BoundLaws.{some-none}
 use Rattle.bits.proofs.BitLaws.{one-shl}
+use Rattle.rdis.specs.Packing.{width, bytesFor}
 use Rattle.grid_promises.specs.Calls.{inRange, countersSized, past}
+use Rattle.grid_promises.specs.Conversion.{convertInRange, convertSized}
 use Rattle.grid_promises.proofs.RefusalLaws.{in-range}
 use Rattle.grid_counters.specs.Promises.{fit}
-use Rattle.grid_checks.specs.Numbers.{judged}
+use Rattle.grid_checks.specs.Numbers.{judged, convertJudged}
 
 -- ---- a word with a bit past the last column
 
@@ -75,3 +77,27 @@ module _ (m n k counters : ℕ) (words : Bool) where
   in-range-by h =
       let r = in-range m n k .0 h in
       rw (h, le-leb (m + n) 128 (omega (arith, r .rows .1, r .columns .1)))
+
+-- ---- a conversion
+
+-- the target alone refuses, or leaves the rest to K
+module _ (m n k k′ counters out : ℕ) where
+  pub target-refused : inRange m n k′ && leb k k′ ≡ false → 1 ≡ convertJudged m n k k′ counters out
+  unfolding convertInRange
+  target-refused h = ap (λ t. cond (not t) 1 (cond (convertSized m n k k′ counters out) 0 2)) (sym (refuses (inRange m n k) (inRange m n k′) (leb k k′) h))
+    where
+      refuses : (a b c : Bool) → b && c ≡ false → (a && b) && c ≡ false
+      refuses true b c h = h
+      refuses false b c h = refl
+
+  pub target-passes : inRange m n k′ && leb k k′ ≡ true → judged m n k counters (fit k′ (m + n) out) ≡ convertJudged m n k k′ counters out
+  unfolding judged convertInRange convertSized countersSized fit
+  target-passes h =
+      let r = in-range m n k′ .0 (and-left (inRange m n k′) (leb k k′) h) in
+      rw (le-leb (m + n) 128 (omega (arith, r .rows .1, r .columns .1)))
+      (passes (inRange m n k) (inRange m n k′) (leb k k′) (eqb out (bytesFor (width k′) (m + n))) (eqb counters (bytesFor (width k) (m + n))) h)
+    where
+      passes : (a b c x y : Bool) → b && c ≡ true → cond (not a) 1 (cond {A = ℕ} (x && y) 0 2) ≡ cond (not ((a && b) && c)) 1 (cond (y && x) 0 2)
+      passes a true true x y h = ap₂ (λ s t. cond (not s) 1 (cond {A = ℕ} t 0 2)) (sym (and-true (a && true) ∙ and-true a)) (and-comm x y)
+      passes a true false x y h = clash h refl
+      passes a false c x y h = clash h refl

@@ -8,10 +8,10 @@ ghost use mathlib.Core.Bool.{not, _&&_, _||_};
 ghost use Prim.Native.Nat.{ℕ, _^_};
 ghost use lib.Dec.{leb};
 ghost use Rattle.grid_promises.specs.Calls.{between, inRange, past};
-ghost use Rattle.grid_checks.specs.Numbers.{judged, readJudged, planJudged, storeJudged};
+ghost use Rattle.grid_checks.specs.Numbers.{judged, readJudged, planJudged, storeJudged, convertJudged};
 
 // The largest K.
-const MOST_LEVELS: usize = 3;
+const MOST_LEVELS: usize = 7;
 
 fn is_between(first: usize, last: usize, x: usize) -> bool
     ensures { λ r. ⌜ r ≡ between first last x ⌝ }
@@ -85,6 +85,24 @@ pub fn store_number(
 {
     let words = (data == rows) & ((mask == rows) & (values == rows));
     number(rows, columns, k, counters, words & (cells == rows))
+}
+
+// The same for a conversion: the block is judged at the target too. Sizes first: `rows + columns` of any might overflow.
+pub fn convert_number(
+    rows: usize,
+    columns: usize,
+    k: usize,
+    to: usize,
+    counters: usize,
+    out: usize,
+) -> usize
+    ensures { λ r. ⌜ r ≡ convertJudged rows columns k to counters out ⌝ }
+{
+    if !(in_range(rows, columns, to) & (k <= to)) {
+        return OUT_OF_RANGE;
+    }
+    let room = grid_counters::fits(to, rows + columns, out);
+    number(rows, columns, k, counters, room)
 }
 
 // The OR of all words: it has a bit past a column exactly if a word has.

@@ -1,7 +1,8 @@
 -- What was written is read back, and no second answer meets a promise. Assumes nothing.
-use Prim.Native.Nat.{suc, _+_}
+use Prim.Native.Nat.{ℕ, suc, _+_}
 use mathlib.Core.Path.{_≡_, refl, sym, ap, _∙_}
 use mathlib.Core.Bool.{Bool, true, false}
+use mathlib.Core.Logic.{_≢_}
 use native.Mathlib.Omega.{arith}
 use native.Mathlib.Decide.{ℕ-discrete}
 use borrow.Author.Tests.{le-ltb}
@@ -13,7 +14,7 @@ use Rattle.rdis.specs.Theorems.{Packs}
 use Rattle.rdis.proofs.PackingLaws.{packed-only, counter-packed, counters-back, length-in-order, in-order-below}
 use Rattle.grid_sets.specs.Sets.{times}
 use Rattle.grid_sets.proofs.SetLaws.{sets-ext}
-use Rattle.grid_counters.specs.Promises.{roomy, unpackNumber, packable, ReadsBack, OneUnpack, OnePack}
+use Rattle.grid_counters.specs.Promises.{roomy, unpackNumber, packable, ReadsBack, OneUnpack, OnePack, OneConvert}
 use Rattle.grid_counters.proofs.PromiseLaws.{packs, is-roomy, times-few, counters-fit}
 
 pub reads-back : ReadsBack
@@ -45,18 +46,29 @@ either : {A : Type 0} (t : Bool) → (t ≡ true → A) → (t ≡ false → A) 
 either true f g = f refl
 either false f g = g refl
 
+-- an index that is t with 4 and 0 with any other number
+same-index : (t x x′ i i′ : ℕ) → x ≡ x′ → (x ≡ 4 → i ≡ t) → (x ≢ 4 → i ≡ 0) → (x′ ≡ 4 → i′ ≡ t) → (x′ ≢ 4 → i′ ≡ 0) → i ≡ i′
+same-index t x x′ i i′ same f g f′ g′ = elim (ℕ-discrete x 4) [ yes e ↦ f e ∙ sym (f′ (sym same ∙ e)) | no h ↦ g h ∙ sym (g′ (λ e. h (same ∙ e))) ]
+
 pub one-unpack : OneUnpack
 one-unpack k m n bs c c′ p q =
     let same : c .number ≡ c′ .number = p .number ∙ sym (q .number) in
     let rows : c .rows ≡ c′ .rows = either (roomy k m n (length bs)) (λ h. p .rowSets h ∙ sym (q .rowSets h)) (λ h. p .noRows h ∙ sym (q .noRows h)) in
     let columns : c .columns ≡ c′ .columns = either (roomy k m n (length bs)) (λ h. p .columnSets h ∙ sym (q .columnSets h)) (λ h. p .noColumns h ∙ sym (q .noColumns h)) in
-    let index : c .index ≡ c′ .index =
-    elim (ℕ-discrete (c .number) 4) [
-      | yes e ↦ p .names e ∙ sym (q .names (sym same ∙ e))
-      | no h ↦ p .namesNone h ∙ sym (q .namesNone (λ e. h (same ∙ e)))
-    ] in
+    let index = same-index _ (c .number) (c′ .number) (c .index) (c′ .index) same (p .names) (p .namesNone) (q .names) (q .namesNone) in
     λ i. record { number = same i; index = index i; rows = rows i; columns = columns i }
 
 pub one-pack : OnePack
 one-pack k m n used rows columns before after after′ p q =
     either (packable k m n used (length before)) (λ h. p .bytes h ∙ sym (q .bytes h)) (λ h. p .untouched h ∙ sym (q .untouched h))
+
+pub one-convert : OneConvert
+one-convert k k′ m n bs before c c′ after after′ p q =
+    let same : c .number ≡ c′ .number = p .number ∙ sym (q .number) in
+    let index = same-index _ (c .number) (c′ .number) (c .index) (c′ .index) same (p .names) (p .namesNone) (q .names) (q .namesNone) in (
+      λ i. record { number = same i; index = index i },
+      elim (ℕ-discrete (c .number) 0) [
+        | yes z ↦ p .bytes z ∙ sym (q .bytes (sym same ∙ z))
+        | no h ↦ p .untouched (omega arith) ∙ sym (q .untouched (omega arith))
+      ],
+    )

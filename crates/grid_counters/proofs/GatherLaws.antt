@@ -1,9 +1,9 @@
--- Laws of bits that are gathered: the bits at every second place of a word, side by side, by folding it five times. Assumes nothing.
+-- Laws of bits that are gathered: the bits at every second or every third place of a word, side by side, by folding it. Assumes nothing.
 use Prim.Native.Nat.{ℕ, zero, suc, _+_, _-_, _*_, _/_, _%_, _^_, _≤_, _<_}
 use mathlib.Core.Path.{_≡_, refl, sym, ap, ap₂, _∙_}
 use mathlib.Core.Bool.{Bool, _&&_, _||_, or-false}
 use mathlib.Core.Logic.{_⊎_, inl, inr, ⊎-elim}
-use native.Mathlib.Nat.{lt-of-le-of-lt, div-add-mod, div-lt-iff-lt-mul, mul-assoc, mul-comm, mul-le-mul-right, suc-mul, mul-zero}
+use native.Mathlib.Nat.{lt-of-le-of-lt, div-add-mod, div-eq-of-lt, mod-eq-of-lt, div-lt-iff-lt-mul, mul-assoc, mul-comm, mul-le-mul-right, suc-mul, mul-zero, zero-mul}
 use lib.Arith.{digits-div, digits-mod}
 use native.Mathlib.Omega.{arith}
 use borrow.Author.Tests.{lt-ltb, le-ltb}
@@ -13,50 +13,51 @@ use Rattle.bits.specs.Bits.{has, word}
 use Rattle.bits.proofs.TestLaws.{lt-or-le}
 use Rattle.bits.proofs.BitLaws.{has-and, has-or, has-shr, has-zero, has-word, is-word}
 
--- the bits of x stand in groups of g, a group at every d places, with 0 between; and groups put side by side are the bits f
-abbrev pub Grouped : ℕ → ℕ → (ℕ → Bool) → ℕ → Type 0
-Grouped d g f x = (p : ℕ) → p < 64 → has x p ≡ (ltb (p % d) g && f (p / d * g + p % d))
+-- the lowest n bits of x stand in groups of g, a group at every d places, with 0 between; and groups put side by side are the bits f
+abbrev pub Grouped : ℕ → ℕ → ℕ → (ℕ → Bool) → ℕ → Type 0
+Grouped n d g f x = (p : ℕ) → p < n → has x p ≡ (ltb (p % d) g && f (p / d * g + p % d))
 
 -- place p, when groups of g at every d places are laid two and two together, groups of h at every b places, by a move of e places down:
 -- it is in no group; or it is in a lower half, where it was; or in an upper half, to which it is moved
-record Stays (d g e b h p : ℕ) : Type 0 where
+record Stays (n d g e b h p : ℕ) : Type 0 where
   inside : p % b < h
   here : p % d < g
-  near : e + p < 64
+  near : e + p < n
   none : g ≤ (e + p) % d
   same : p / d * g + p % d ≡ p / b * h + p % b
 
-record Moves (d g e b h p : ℕ) : Type 0 where
+record Moves (n d g e b h p : ℕ) : Type 0 where
   inside : p % b < h
   none : g ≤ p % d
-  near : e + p < 64
+  near : e + p < n
   there : (e + p) % d < g
   same : (e + p) / d * g + (e + p) % d ≡ p / b * h + p % b
 
-abbrev Places : ℕ → ℕ → ℕ → ℕ → ℕ → Type 0
-Places d g e b h = (p : ℕ) → p < 64 → (h ≤ p % b) ⊎ (Stays d g e b h p ⊎ Moves d g e b h p)
+abbrev Places : ℕ → ℕ → ℕ → ℕ → ℕ → ℕ → Type 0
+Places n d g e b h = (p : ℕ) → p < n → (h ≤ p % b) ⊎ (Stays n d g e b h p ⊎ Moves n d g e b h p)
 
-module _ (d g e b h m x : ℕ) (f : ℕ → Bool) (places : Places d g e b h) (mask : m ≡ word 64 (λ p. ltb (p % b) h)) where
-  mask-bit : (p : ℕ) → p < 64 → has m p ≡ ltb (p % b) h
-  mask-bit p l = ap (λ y. has y p) mask ∙ has-word 64 (λ p. ltb (p % b) h) p l
+-- a bit of the mask of groups of h at every b places
+pub mask-bit : (n b h m : ℕ) → m ≡ word n (λ p. ltb (p % b) h) → (p : ℕ) → p < n → has m p ≡ ltb (p % b) h
+mask-bit n b h m mask p l = ap (λ y. has y p) mask ∙ has-word n (λ p. ltb (p % b) h) p l
 
-  fold : Grouped d g f x → Grouped b h f (bitAnd m (bitOr x (x / 2 ^ e)))
+module _ (n d g e b h m x : ℕ) (f : ℕ → Bool) (places : Places n d g e b h) (mask : m ≡ word n (λ p. ltb (p % b) h)) where
+  fold : Grouped n d g f x → Grouped n b h f (bitAnd m (bitOr x (x / 2 ^ e)))
   fold k p l =
       has-and m (bitOr x (x / 2 ^ e)) p
-      ∙ ap₂ _&&_ (mask-bit p l) (has-or x (x / 2 ^ e) p ∙ ap (λ t. has x p || t) (has-shr x e p))
+      ∙ ap₂ _&&_ (mask-bit n b h m mask p l) (has-or x (x / 2 ^ e) p ∙ ap (λ t. has x p || t) (has-shr x e p))
       ∙ ⊎-elim out (⊎-elim stays moves) (places p l)
     where
       out : h ≤ p % b → ltb (p % b) h && (has x p || has x (e + p)) ≡ ltb (p % b) h && f (p / b * h + p % b)
       out q = rw (le-ltb (p % b) h q)
 
-      stays : Stays d g e b h p → ltb (p % b) h && (has x p || has x (e + p)) ≡ ltb (p % b) h && f (p / b * h + p % b)
+      stays : Stays n d g e b h p → ltb (p % b) h && (has x p || has x (e + p)) ≡ ltb (p % b) h && f (p / b * h + p % b)
       stays s =
           ap (λ t. ltb (p % b) h && t)
           (ap₂ _||_ (k p l ∙ ap (λ t. t && f (p / d * g + p % d)) (lt-ltb (p % d) g (s .here)))
           (k (e + p) (s .near) ∙ ap (λ t. t && f ((e + p) / d * g + (e + p) % d)) (le-ltb ((e + p) % d) g (s .none)))
           ∙ or-false (f (p / d * g + p % d)) ∙ ap f (s .same))
 
-      moves : Moves d g e b h p → ltb (p % b) h && (has x p || has x (e + p)) ≡ ltb (p % b) h && f (p / b * h + p % b)
+      moves : Moves n d g e b h p → ltb (p % b) h && (has x p || has x (e + p)) ≡ ltb (p % b) h && f (p / b * h + p % b)
       moves s =
           ap (λ t. ltb (p % b) h && t)
           (ap₂ _||_ (k p l ∙ ap (λ t. t && f (p / d * g + p % d)) (le-ltb (p % d) g (s .none)))
@@ -66,15 +67,20 @@ module _ (d g e b h m x : ℕ) (f : ℕ → Bool) (places : Places d g e b h) (m
 pub part : (d x q r : ℕ) → r < d → x ≡ q * d + r → (x / d ≡ q) × (x % d ≡ r)
 part d x q r h e = rw e (digits-div q h, digits-mod q h)
 
--- every second bit: groups of 1 at every 2 places
-module _ (m v : ℕ) (mask : m ≡ word 64 (λ p. ltb (p % 2) 1)) where
-  every-second : Grouped 2 1 (λ i. has v (2 * i)) (bitAnd m v)
-  every-second p l =
-      has-and m v p ∙ ap (λ t. t && has v p) (ap (λ y. has y p) mask ∙ has-word 64 (λ p. ltb (p % 2) 1) p l)
-      ∙ ⊎-elim (λ h. let e : p ≡ 2 * (p / 2 * 1 + p % 2) = omega arith in ap (λ q. ltb (p % 2) 1 && has v q) e) (λ h. rw (le-ltb (p % 2) 1 h)) (lt-or-le (p % 2) 1)
+-- the bits at every d places: groups of 1
+every : (n d m v : ℕ) → m ≡ word n (λ p. ltb (p % d) 1) → Grouped n d 1 (λ i. has v (d * i)) (bitAnd m v)
+every n d m v mask p l =
+    has-and m v p ∙ ap (λ t. t && has v p) (mask-bit n d 1 m mask p l)
+    ∙ ⊎-elim (λ h. ap (λ q. ltb (p % d) 1 && has v q) (sym (ap (λ t. d * t) (place h) ∙ sym (whole h)))) (λ h. rw (le-ltb (p % d) 1 h)) (lt-or-le (p % d) 1)
+  where
+    place : p % d < 1 → p / d * 1 + p % d ≡ p / d
+    place h = omega arith
+
+    whole : p % d < 1 → p ≡ d * (p / d)
+    whole h = omega (arith, div-add-mod p d)
 
 -- groups of g at every d places can be laid two and two together, where that many of them fill a word
-module _ (d g u p : ℕ) (wide : 2 * g ≤ d) (whole : u * (2 * d) ≡ 64) (l : p < 64) where
+module _ (n d g u p : ℕ) (wide : 2 * g ≤ d) (whole : u * (2 * d) ≡ n) (l : p < n) where
   abbrev t : ℕ
   t = p / (2 * d)
 
@@ -88,35 +94,46 @@ module _ (d g u p : ℕ) (wide : 2 * g ≤ d) (whole : u * (2 * d) ≡ 64) (l : 
   doubled = ap (λ x. x * g) (mul-comm 2 t) ∙ mul-assoc t 2 g
 
   -- the last group ends with the word
-  ends : 2 * t * d + 2 * d ≤ 64
+  ends : 2 * t * d + 2 * d ≤ n
   ends =
       let less : t < u = div-lt-iff-lt-mul (positive (2 * d) u whole) .1 (rw whole l) in
       let f : t * (2 * d) ≡ 2 * t * d = sym (mul-assoc t 2 d) ∙ ap (λ x. x * d) (mul-comm t 2) in
       omega (arith, mul-le-mul-right (2 * d) less, suc-mul t (2 * d))
     where
-      positive : (x u : ℕ) → u * x ≡ 64 → 0 < x
+      positive : (x u : ℕ) → u * x ≡ n → 0 < x
       positive zero u e = absurd (omega (arith, mul-zero u))
       positive (suc x) u e = omega arith
 
-  laid : (2 * g ≤ a) ⊎ (Stays d g (d - g) (2 * d) (2 * g) p ⊎ Moves d g (d - g) (2 * d) (2 * g) p)
+  laid : (2 * g ≤ a) ⊎ (Stays n d g (d - g) (2 * d) (2 * g) p ⊎ Moves n d g (d - g) (2 * d) (2 * g) p)
   laid = ⊎-elim (λ low. inr (⊎-elim (λ q. inl (stay q)) (λ q. inr (move low q)) (lt-or-le a g))) inl (lt-or-le a (2 * g))
     where
-      stay : a < g → Stays d g (d - g) (2 * d) (2 * g) p
+      stay : a < g → Stays n d g (d - g) (2 * d) (2 * g) p
       stay q =
           let (x, y) = part d p (2 * t) a (omega arith) split in
           let (v, w) = part d (d - g + p) (2 * t) (d - g + a) (omega arith) (omega (arith, split)) in
           record { inside = omega arith; here = omega arith; near = omega (arith, split, ends); none = omega arith; same = rw (x, y) (ap (λ z. z + a) doubled) }
 
-      move : a < 2 * g → g ≤ a → Moves d g (d - g) (2 * d) (2 * g) p
+      move : a < 2 * g → g ≤ a → Moves n d g (d - g) (2 * d) (2 * g) p
       move low q =
           let (x, y) = part d p (2 * t) a (omega arith) split in
           let (v, w) = part d (d - g + p) (suc (2 * t)) (a - g) (omega arith) (omega (arith, split, suc-mul (2 * t) d)) in
           record { inside = low; none = omega arith; near = omega (arith, split, ends); there = omega arith; same = rw (v, w) (omega (arith, doubled, suc-mul (2 * t) g)) }
 
-laid-together : (d g u : ℕ) → 2 * g ≤ d → u * (2 * d) ≡ 64 → Places d g (d - g) (2 * d) (2 * g)
-laid-together d g u wide whole p l = laid d g u p wide whole l
+-- so a fold of groups that fill the n bits, two and two
+pub fold-two : (n d g u m x : ℕ) (f : ℕ → Bool) → 2 * g ≤ d → u * (2 * d) ≡ n → m ≡ word n (λ p. ltb (p % (2 * d)) (2 * g))
+    → Grouped n d g f x → Grouped n (2 * d) (2 * g) f (bitAnd m (bitOr x (x / 2 ^ (d - g))))
+fold-two n d g u m x f wide whole mask = fold n d g (d - g) (2 * d) (2 * g) m x f (λ p l. laid n d g u p wide whole l) mask
 
--- ---- the even places
+-- one group is the bits side by side
+pub gathered : (n h m x : ℕ) (f : ℕ → Bool) → h ≤ n → m < 2 ^ h → Grouped n n h f (bitAnd m x) → bitAnd m x ≡ word h f
+gathered n h m x f few less k =
+    is-word h (bitAnd m x) f (lt-of-le-of-lt (and-le-l m x) less)
+    (λ j l.
+    let near : j < n = omega arith in
+    let first : j / n * h + j % n ≡ j = rw (div-eq-of-lt near, mod-eq-of-lt near, zero-mul h) (omega arith) in
+    k j near ∙ rw (mod-eq-of-lt near) (ap (λ t. t && f (j / n * h + j)) (lt-ltb j h l) ∙ ap f (sym (ap (λ z. j / n * h + z) (mod-eq-of-lt near)) ∙ first)))
+
+-- ---- every second bit of 64
 
 module _ (v m0 m1 m2 m3 m4 m5 : ℕ) where
   abbrev a0 : ℕ
@@ -138,11 +155,8 @@ module _ (v m0 m1 m2 m3 m4 m5 : ℕ) where
       → m4 ≡ word 64 (λ p. ltb (p % 32) 16) → m5 ≡ word 64 (λ p. ltb (p % 64) 32) → bitAnd m5 (bitOr a4 (a4 / 2 ^ 16)) ≡ word 32 (λ i. has v (2 * i))
   folded h e0 e1 e2 e3 e4 e5 =
       let f : ℕ → Bool = λ i. has v (2 * i) in
-      let g = fold 32 16 16 64 32 m5 a4 f (laid-together 32 16 1 (lit≤ tt) refl) e5 (fold 16 8 8 32 16 m4 a3 f (laid-together 16 8 2 (lit≤ tt) refl) e4
-      (fold 8 4 4 16 8 m3 a2 f (laid-together 8 4 4 (lit≤ tt) refl) e3 (fold 4 2 2 8 4 m2 a1 f (laid-together 4 2 8 (lit≤ tt) refl) e2
-      (fold 2 1 1 4 2 m1 a0 f (laid-together 2 1 16 (lit≤ tt) refl) e1 (every-second m0 v e0))))) in
-      is-word 32 (bitAnd m5 (bitOr a4 (a4 / 2 ^ 16))) f (lt-of-le-of-lt (and-le-l m5 (bitOr a4 (a4 / 2 ^ 16))) h)
-      (λ j l. let e : j / 64 * 32 + j % 64 ≡ j = omega arith in g j (omega arith) ∙ rw (lt-ltb (j % 64) 32 (omega arith)) (ap f e))
+      gathered 64 32 m5 (bitOr a4 (a4 / 2 ^ 16)) f (lit≤ tt) h (fold-two 64 32 16 1 m5 a4 f (lit≤ tt) refl e5 (fold-two 64 16 8 2 m4 a3 f (lit≤ tt) refl e4
+      (fold-two 64 8 4 4 m3 a2 f (lit≤ tt) refl e3 (fold-two 64 4 2 8 m2 a1 f (lit≤ tt) refl e2 (fold-two 64 2 1 16 m1 a0 f (lit≤ tt) refl e1 (every 64 2 m0 v e0))))))
 
 -- the masks of the code: groups of 1, 2, 4, 8, 16 and 32 bits
 abbrev fourth : ℕ → ℕ
@@ -154,3 +168,32 @@ seconds-are v = folded v 6148914691236517205 3689348814741910323 108510259257115
 
 pub no-seconds : 0 ≡ word 32 (λ i. has 0 (2 * i))
 no-seconds = is-word 32 0 (λ i. has 0 (2 * i)) (lit< tt) (λ j _. has-zero j ∙ sym (has-zero (2 * j)))
+
+-- ---- every third bit of 48
+
+module _ (a0 m1 m2 m3 m4 : ℕ) where
+  abbrev b1 : ℕ
+  b1 = bitAnd m1 (bitOr a0 (a0 / 2 ^ 2))
+
+  abbrev b2 : ℕ
+  b2 = bitAnd m2 (bitOr b1 (b1 / 2 ^ 4))
+
+  abbrev b3 : ℕ
+  b3 = bitAnd m3 (bitOr b2 (b2 / 2 ^ 8))
+
+  folded-thirds : m4 < 2 ^ 16 → (f : ℕ → Bool) → m1 ≡ word 48 (λ p. ltb (p % 6) 2) → m2 ≡ word 48 (λ p. ltb (p % 12) 4) → m3 ≡ word 48 (λ p. ltb (p % 24) 8)
+      → m4 ≡ word 48 (λ p. ltb (p % 48) 16) → Grouped 48 3 1 f a0 → bitAnd m4 (bitOr b3 (b3 / 2 ^ 16)) ≡ word 16 f
+  folded-thirds h f e1 e2 e3 e4 k =
+      gathered 48 16 m4 (bitOr b3 (b3 / 2 ^ 16)) f (lit≤ tt) h (fold-two 48 24 8 1 m4 b3 f (lit≤ tt) refl e4 (fold-two 48 12 4 2 m3 b2 f (lit≤ tt) refl e3
+      (fold-two 48 6 2 4 m2 b1 f (lit≤ tt) refl e2 (fold-two 48 3 1 8 m1 a0 f (lit≤ tt) refl e1 k))))
+
+-- the masks of the code: groups of 1, 2, 4, 8 and 16 bits
+abbrev third : ℕ → ℕ
+third a = b3 a 13403570319555 1031043870735 4278190335 65535
+
+pub thirds-are : (v : ℕ) → bitAnd 65535 (bitOr (third (bitAnd 40210710958665 v)) (third (bitAnd 40210710958665 v) / 2 ^ 16)) ≡ word 16 (λ i. has v (3 * i))
+unfolding word
+thirds-are v = folded-thirds (bitAnd 40210710958665 v) 13403570319555 1031043870735 4278190335 65535 (lit< tt) (λ i. has v (3 * i)) refl refl refl refl (every 48 3 40210710958665 v refl)
+
+pub no-thirds : (v : ℕ) → bitAnd 40210710958665 v ≡ 0 → 0 ≡ word 16 (λ i. has v (3 * i))
+no-thirds v e = sym (ap (λ a. bitAnd 65535 (bitOr (third a) (third a / 2 ^ 16))) e) ∙ thirds-are v

@@ -16,12 +16,12 @@ pub spare-set : (clear high : Bool) (t : ℕ) → not clear ≡ true → Judges 
 spare-set true high t h = clash h refl
 spare-set false high t h = record { number = refl; index = refl }
 
-none-above : (clear high : Bool) (t : ℕ) → not clear ≡ false → high ≡ false → Judges clear high t (record { number = 0; index = 0 })
+pub none-above : (clear high : Bool) (t : ℕ) → not clear ≡ false → high ≡ false → Judges clear high t (record { number = 0; index = 0 })
 none-above true true t h e = clash refl e
 none-above true false t h e = record { number = refl; index = refl }
 none-above false high t h e = clash refl h
 
-one-above : (clear high : Bool) (t x : ℕ) → not clear ≡ false → high ≡ true → x ≡ t → Judges clear high t (record { number = 4; index = x })
+pub one-above : (clear high : Bool) (t x : ℕ) → not clear ≡ false → high ≡ true → x ≡ t → Judges clear high t (record { number = 4; index = x })
 one-above true true t x h e p = record { number = refl; index = p }
 one-above true false t x h e p = clash e refl
 one-above false high t x h e p = clash refl h

@@ -1,10 +1,13 @@
 pub mod ShiftLaws
 pub mod GatherLaws
 pub mod SpreadLaws
+pub mod SpacedLaws
 pub mod PackLaws
 pub mod PlaneLaws
+pub mod ThresholdLaws
 pub mod TallyLaws
 pub mod FillLaws
 pub mod JudgeLaws
 pub mod PromiseLaws
+pub mod ConvertLaws
 pub mod Demands

@@ -1,6 +1,6 @@
 -- Laws of the width of counters, of a part of a number's digits, and of the bits past the last counter. Assumes nothing.
 use mathlib.Core.Path.{_≡_, refl, sym, ap, _∙_}
-use mathlib.Core.Bool.{Bool, true, false}
+use mathlib.Core.Bool.{Bool, true, false, cond}
 use mathlib.Core.List.{List, [], _∷_}
 use Prim.Native.Nat.{ℕ, zero, suc, _+_, _*_, _/_, _%_, _^_, _-_, _<_, _≤_}
 use native.Mathlib.Nat.{pow-zero, pow-suc, div-lt-iff-lt-mul, mul-le-mul, mul-assoc, mul-add-mod-self-right, zero-mul, add-mul, one-mul, div-eq-of-lt, mul-one, div-add-mod}
@@ -23,19 +23,22 @@ small w t h k = mul-le-mul h k
 
 -- ---- widths
 
-width-by : (k : ℕ) (t : Bool) → leb k 1 ≡ t → (1 ≤ width k) × (width k ≤ 2) × (2 ^ width k ≤ 4)
-unfolding width
-width-by k true e = rw e (omega arith, omega arith, omega arith)
-width-by k false e = rw e (omega arith, omega arith, omega arith)
+width-by : (a b : Bool) → let w : ℕ = cond a 1 (cond b 2 3) in (1 ≤ w) × (w ≤ 3) × (2 ^ w ≤ 8)
+width-by true b = (omega arith, omega arith, omega arith)
+width-by false true = (omega arith, omega arith, omega arith)
+width-by false false = (omega arith, omega arith, omega arith)
 
 pub width-some : (k : ℕ) → 1 ≤ width k
-width-some k = width-by k (leb k 1) refl .0
+unfolding width
+width-some k = width-by (leb k 1) (leb k 3) .0
 
-pub width-few : (k : ℕ) → width k ≤ 2
-width-few k = width-by k (leb k 1) refl .1
+pub width-few : (k : ℕ) → width k ≤ 3
+unfolding width
+width-few k = width-by (leb k 1) (leb k 3) .1
 
-pub bits-few : (k : ℕ) → 2 ^ width k ≤ 4
-bits-few k = width-by k (leb k 1) refl .2
+pub bits-few : (k : ℕ) → 2 ^ width k ≤ 8
+unfolding width
+bits-few k = width-by (leb k 1) (leb k 3) .2
 
 -- ---- a window of digits
 

@@ -6,13 +6,13 @@ use mathlib.Core.List.{List}
 use mathlib.Core.Logic.{_≢_, ⊎-elim}
 use native.Mathlib.Nat.{mod-lt, lt-of-lt-of-le}
 use native.Mathlib.Omega.{arith}
-use borrow.Author.Tests.{leb-true, ltb-true, eqb-true, eq-eqb, le-leb, lt-leb, lt-ltb, le-ltb}
+use borrow.Author.Tests.{leb-true, ltb-true, eqb-true, eq-eqb, le-leb, lt-leb, lt-ltb, le-ltb, ltb-false}
 use lib.Dec.{eqb, leb, ltb}
 use lib.ListN.{length, getD, replicate}
 use lib.Pow.{pow-pos}
 use Rattle.bits.specs.Bits.{has, number, Below}
 use Rattle.bits.proofs.TestLaws.{clash, and-in, and-left, and-right, lt-or-le}
-use Rattle.bits.proofs.BoundLaws.{some-none, sum-num-le}
+use Rattle.bits.proofs.BoundLaws.{some-none, none-below, sum-num-le}
 use Rattle.rdis.specs.Packing.{width, bytesFor, inOrder, counter, rowCounter, columnCounter, spareClear, above, firstAbove}
 use Rattle.rdis.proofs.PackingLaws.{in-order-below}
 use Rattle.grid_sets.specs.Sets.{setsOf, times, someLine, firstLine}
@@ -70,7 +70,7 @@ pub not-roomy : (k m n : ℕ) (bs : List ℕ) → roomy k m n (length bs) ≡ fa
 unfolding unpackNumber
 not-roomy k m n bs h = record { number = rw h; names = λ e. absurd (omega arith); namesNone = λ _. refl; noRows = λ _. refl; noColumns = λ _. refl; rowSets = λ e. clash e h; columnSets = λ e. clash e h }
 
-pub counter-few : (k : ℕ) (bs : List ℕ) (t : ℕ) → counter (width k) bs t < 4
+pub counter-few : (k : ℕ) (bs : List ℕ) (t : ℕ) → counter (width k) bs t < 8
 unfolding counter
 counter-few k bs t = lt-of-lt-of-le (mod-lt _ (pow-pos (width k))) (bits-few k)
 
@@ -90,6 +90,16 @@ above-few k m n bs h = ltb-true k 8 (and-left _ _ (above-sets k m n bs ∙ h))
 by-tests : (s a : Bool) → cond {A = ℕ} s (cond a 4 0) 3 ≡ cond (not s) 3 (cond a 4 0)
 by-tests true a = refl
 by-tests false a = refl
+
+-- counters that are accepted have no spare bit that is 1, and none is above k
+pub accepts : (s a : Bool) → cond {A = ℕ} (not s) 3 (cond a 4 0) ≡ 0 → (s ≡ true) × (a ≡ false)
+accepts true true e = absurd (omega arith)
+accepts true false e = (refl, refl)
+accepts false a e = absurd (omega arith)
+
+pub none-above-k : (k n : ℕ) (bs : List ℕ) → above k n bs ≡ false → (t : ℕ) → t < n → counter (width k) bs t ≤ k
+unfolding above
+none-above-k k n bs h t l = omega (arith, ltb-false k (counter (width k) bs t) (none-below n (λ t. ltb k (counter (width k) bs t)) h t l))
 
 -- refusal 4 is a counter above k
 refuses-four : (s a : Bool) → cond {A = ℕ} (not s) 3 (cond a 4 0) ≡ 4 → a ≡ true

@@ -1,24 +1,24 @@
--- Laws of bits that are spread: the 32 lowest bits of a word at its even places, by five steps, each of which undoes a fold of GatherLaws. Assumes nothing.
+-- Laws of bits that are spread: the lowest bits of a word at every second or every third place, by steps of which each undoes a fold of GatherLaws. Assumes nothing.
 use Prim.Native.Nat.{ℕ, zero, suc, _+_, _-_, _*_, _/_, _%_, _^_, _≤_, _<_}
 use mathlib.Core.Path.{_≡_, refl, sym, ap, ap₂, _∙_}
 use mathlib.Core.Bool.{Bool, false, _&&_, _||_, or-false}
 use mathlib.Core.Logic.{⊎-elim}
-use native.Mathlib.Nat.{lt-of-le-of-lt, mod-lt, div-add-mod, mul-assoc, mul-comm, suc-mul, zero-mul}
+use native.Mathlib.Nat.{lt-of-le-of-lt, mod-lt, div-add-mod, div-eq-of-lt, mod-eq-of-lt, mul-assoc, mul-comm, suc-mul, zero-mul}
 use native.Mathlib.Omega.{arith}
 use borrow.Author.Tests.{lt-ltb, le-ltb}
 use lib.Bits.{bitAnd, bitOr, and-le-l}
 use lib.Dec.{ltb, lit<, lit≤}
 use Rattle.bits.specs.Bits.{has, word}
 use Rattle.bits.proofs.TestLaws.{lt-or-le}
-use Rattle.bits.proofs.BitLaws.{has-and, has-or, has-word, is-word}
-use Rattle.grid_counters.specs.Steps.{atEven}
+use Rattle.bits.proofs.BitLaws.{has-and, has-or, is-word}
+use Rattle.grid_counters.specs.Steps.{spaced}
 use Rattle.grid_counters.proofs.ShiftLaws.{moved-low, moved-high}
-use Rattle.grid_counters.proofs.GatherLaws.{Grouped, part}
+use Rattle.grid_counters.proofs.GatherLaws.{Grouped, mask-bit, part}
 
 -- groups of 2 g at every 2 d places become groups of g at every d places: the upper half of each moves up by d - g
-module _ (d g m x : ℕ) (f : ℕ → Bool) (some : 0 < d) (wide : 2 * g ≤ d) (mask : m ≡ word 64 (λ p. ltb (p % d) g)) (k : Grouped (2 * d) (2 * g) f x) where
+module _ (n d g m x : ℕ) (f : ℕ → Bool) (short : n ≤ 64) (some : 0 < d) (wide : 2 * g ≤ d) (mask : m ≡ word n (λ p. ltb (p % d) g)) (k : Grouped n (2 * d) (2 * g) f x) where
   -- at place p, which is the place a of pair t of the groups to be
-  module _ (p t a : ℕ) (l : p < 64) (low : a < 2 * d) (split : p ≡ t * (2 * d) + a) where
+  module _ (p t a : ℕ) (l : p < n) (low : a < 2 * d) (split : p ≡ t * (2 * d) + a) where
     abbrev up : ℕ
     up = x * 2 ^ (d - g) % 2 ^ 64
 
@@ -32,13 +32,13 @@ module _ (d g m x : ℕ) (f : ℕ → Bool) (some : 0 < d) (wide : 2 * g ≤ d) 
     doubled = sym (mul-assoc t 2 g) ∙ ap (λ y. y * g) (mul-comm t 2)
 
     -- a bit of x, by its place in a group
-    bit : (q u b : ℕ) → q < 64 → b < 2 * d → q ≡ u * (2 * d) + b → has x q ≡ (ltb b (2 * g) && f (u * (2 * g) + b))
+    bit : (q u b : ℕ) → q < n → b < 2 * d → q ≡ u * (2 * d) + b → has x q ≡ (ltb b (2 * g) && f (u * (2 * g) + b))
     bit q u b h r e = let (y, z) = part (2 * d) q u b r e in k q h ∙ rw (y, z)
 
-    none : (q u b : ℕ) → q < 64 → b < 2 * d → q ≡ u * (2 * d) + b → 2 * g ≤ b → has x q ≡ false
+    none : (q u b : ℕ) → q < n → b < 2 * d → q ≡ u * (2 * d) + b → 2 * g ≤ b → has x q ≡ false
     none q u b h r e o = bit q u b h r e ∙ ap (λ y. y && f (u * (2 * g) + b)) (le-ltb b (2 * g) o)
 
-    found : (q u b : ℕ) → q < 64 → b < 2 * d → q ≡ u * (2 * d) + b → b < 2 * g → has x q ≡ f (u * (2 * g) + b)
+    found : (q u b : ℕ) → q < n → b < 2 * d → q ≡ u * (2 * d) + b → b < 2 * g → has x q ≡ f (u * (2 * g) + b)
     found q u b h r e o = bit q u b h r e ∙ ap (λ y. y && f (u * (2 * g) + b)) (lt-ltb b (2 * g) o)
 
     out : g ≤ p % d → Goal
@@ -48,7 +48,7 @@ module _ (d g m x : ℕ) (f : ℕ → Bool) (some : 0 < d) (wide : 2 * g ≤ d) 
     stays : a < g → Goal
     stays h =
         let (y, z) = part d p (2 * t) a (omega arith) (omega (arith, split, twice)) in
-        ap₂ (λ u v. ltb (p % d) g && (u || v)) (found p t a l low split (omega arith)) (⊎-elim (λ q. moved-low x (d - g) p q l) above (lt-or-le p (d - g)))
+        ap₂ (λ u v. ltb (p % d) g && (u || v)) (found p t a l low split (omega arith)) (⊎-elim (λ q. moved-low x (d - g) p q (omega arith)) above (lt-or-le p (d - g)))
         ∙ ap (λ u. ltb (p % d) g && u) (or-false (f (t * (2 * g) + a)) ∙ ap f (rw (y, z) (omega (arith, doubled))))
       where
         before : (u : ℕ) → p ≡ u * (2 * d) + a → d - g ≤ p → has x (p - (d - g)) ≡ false
@@ -56,14 +56,14 @@ module _ (d g m x : ℕ) (f : ℕ → Bool) (some : 0 < d) (wide : 2 * g ≤ d) 
         before (suc u) e q = none (p - (d - g)) u (d + g + a) (omega arith) (omega arith) (omega (arith, suc-mul u (2 * d))) (omega arith)
 
         above : d - g ≤ p → has up p ≡ false
-        above q = moved-high x (d - g) p q l ∙ before t split q
+        above q = moved-high x (d - g) p q (omega arith) ∙ before t split q
 
     -- in an upper half: it is moved there, and nothing was there
     moves : d ≤ a → a < d + g → Goal
     moves h o =
         let (y, z) = part d p (suc (2 * t)) (a - d) (omega arith) (omega (arith, split, twice, suc-mul (2 * t) d)) in
         ap₂ (λ u v. ltb (p % d) g && (u || v)) (none p t a l low split (omega arith))
-        (moved-high x (d - g) p (omega (arith, split)) l ∙ found (p - (d - g)) t (a - (d - g)) (omega arith) (omega arith) (omega (arith, split)) (omega arith))
+        (moved-high x (d - g) p (omega (arith, split)) (omega arith) ∙ found (p - (d - g)) t (a - (d - g)) (omega arith) (omega arith) (omega (arith, split)) (omega arith))
         ∙ ap (λ u. ltb (p % d) g && f u) (rw (y, z) (omega (arith, doubled, suc-mul (2 * t) g)))
 
     -- between the groups
@@ -77,26 +77,26 @@ module _ (d g m x : ℕ) (f : ℕ → Bool) (some : 0 < d) (wide : 2 * g ≤ d) 
         ⊎-elim stays (λ h. ⊎-elim (λ q. between h (λ r. absurd (omega arith)))
         (λ q. ⊎-elim (moves q) (λ r. between h (λ _. r)) (lt-or-le a (d + g))) (lt-or-le a d)) (lt-or-le a g)
 
-  spread : Grouped d g f (bitAnd m (bitOr x (x * 2 ^ (d - g) % 2 ^ 64)))
+  spread : Grouped n d g f (bitAnd m (bitOr x (x * 2 ^ (d - g) % 2 ^ 64)))
   spread p l =
       let whole = div-add-mod p (2 * d) in
       has-and m (bitOr x (x * 2 ^ (d - g) % 2 ^ 64)) p
-      ∙ ap₂ _&&_ (ap (λ y. has y p) mask ∙ has-word 64 (λ p. ltb (p % d) g) p l) (has-or x (x * 2 ^ (d - g) % 2 ^ 64) p)
+      ∙ ap₂ _&&_ (mask-bit n d g m mask p l) (has-or x (x * 2 ^ (d - g) % 2 ^ 64) p)
       ∙ at-place p (p / (2 * d)) (p % (2 * d)) l (mod-lt p (omega arith)) (omega (arith, mul-comm (2 * d) (p / (2 * d))))
 
--- ---- the even places
+-- the h lowest of n bits are one group
+one-group : (n h m v : ℕ) → m ≡ word n (λ p. ltb (p % n) h) → Grouped n n h (has v) (bitAnd m v)
+one-group n h m v mask p l =
+    let e : p / n * h + p % n ≡ p = rw (div-eq-of-lt l, mod-eq-of-lt l, zero-mul h) (omega arith) in
+    has-and m v p ∙ ap₂ _&&_ (mask-bit n n h m mask p l) (ap (has v) (sym e))
 
--- the 32 lowest bits are one group, and groups of 1 at every 2 places are the bits at the even places
-module _ (v m0 : ℕ) where
-  one-group : m0 ≡ word 64 (λ p. ltb (p % 64) 32) → Grouped 64 32 (has v) (bitAnd m0 v)
-  one-group mask p l =
-      let e : p / 64 * 32 + p % 64 ≡ p = omega arith in
-      has-and m0 v p ∙ ap₂ _&&_ (ap (λ y. has y p) mask ∙ has-word 64 (λ p. ltb (p % 64) 32) p l) (ap (has v) (sym e))
+-- groups of 1 at every d places are the bits with 0 between
+single-bits : (n d v x : ℕ) → x < 2 ^ n → Grouped n d 1 (has v) x → x ≡ word n (spaced d v)
+single-bits n d v x h k =
+    is-word n x (spaced d v) h
+    (λ p l. k p l ∙ ⊎-elim (λ q. let e : p / d * 1 + p % d ≡ p / d = omega arith in ap (λ y. ltb (p % d) 1 && has v y) e) (λ q. rw (le-ltb (p % d) 1 q)) (lt-or-le (p % d) 1))
 
-  even-places : (x : ℕ) → x < 2 ^ 64 → Grouped 2 1 (has v) x → x ≡ word 64 (atEven v)
-  even-places x h k =
-      is-word 64 x (atEven v) h
-      (λ p l. k p l ∙ ⊎-elim (λ q. let e : p / 2 * 1 + p % 2 ≡ p / 2 = omega arith in ap (λ y. ltb (p % 2) 1 && has v y) e) (λ q. rw (le-ltb (p % 2) 1 q)) (lt-or-le (p % 2) 1))
+-- ---- 32 bits at the even places of 64
 
 module _ (a m1 m2 m3 m4 m5 : ℕ) where
   abbrev a1 : ℕ
@@ -115,20 +115,56 @@ module _ (a m1 m2 m3 m4 m5 : ℕ) where
   a5 = bitAnd m5 (bitOr a4 (a4 * 2 ^ 1 % 2 ^ 64))
 
   steps : m1 ≡ word 64 (λ p. ltb (p % 32) 16) → m2 ≡ word 64 (λ p. ltb (p % 16) 8) → m3 ≡ word 64 (λ p. ltb (p % 8) 4)
-      → m4 ≡ word 64 (λ p. ltb (p % 4) 2) → m5 ≡ word 64 (λ p. ltb (p % 2) 1) → (f : ℕ → Bool) → Grouped 64 32 f a → Grouped 2 1 f a5
+      → m4 ≡ word 64 (λ p. ltb (p % 4) 2) → m5 ≡ word 64 (λ p. ltb (p % 2) 1) → (f : ℕ → Bool) → Grouped 64 64 32 f a → Grouped 64 2 1 f a5
   steps e1 e2 e3 e4 e5 f k =
-      spread 2 1 m5 a4 f (lit< tt) (lit≤ tt) e5 (spread 4 2 m4 a3 f (lit< tt) (lit≤ tt) e4 (spread 8 4 m3 a2 f (lit< tt) (lit≤ tt) e3
-      (spread 16 8 m2 a1 f (lit< tt) (lit≤ tt) e2 (spread 32 16 m1 a f (lit< tt) (lit≤ tt) e1 k))))
+      let short = lit≤ tt in
+      spread 64 2 1 m5 a4 f short (lit< tt) (lit≤ tt) e5 (spread 64 4 2 m4 a3 f short (lit< tt) (lit≤ tt) e4 (spread 64 8 4 m3 a2 f short (lit< tt) (lit≤ tt) e3
+      (spread 64 16 8 m2 a1 f short (lit< tt) (lit≤ tt) e2 (spread 64 32 16 m1 a f short (lit< tt) (lit≤ tt) e1 k))))
 
 -- the masks of the code: groups of 16, 8, 4, 2 and 1 bits
 abbrev spreadOut : ℕ → ℕ
 spreadOut a = a5 a 281470681808895 71777214294589695 1085102592571150095 3689348814741910323 6148914691236517205
 
-pub apart-are : (v : ℕ) → spreadOut (bitAnd 4294967295 v) ≡ word 64 (atEven v)
+pub apart-are : (v : ℕ) → spreadOut (bitAnd 4294967295 v) ≡ word 64 (spaced 2 v)
 unfolding word
 apart-are v =
-    even-places v 4294967295 (spreadOut (bitAnd 4294967295 v)) (lt-of-le-of-lt (and-le-l 6148914691236517205 _) (lit< tt))
-    (steps (bitAnd 4294967295 v) 281470681808895 71777214294589695 1085102592571150095 3689348814741910323 6148914691236517205 refl refl refl refl refl (has v) (one-group v 4294967295 refl))
+    single-bits 64 2 v (spreadOut (bitAnd 4294967295 v)) (lt-of-le-of-lt (and-le-l 6148914691236517205 _) (lit< tt))
+    (steps (bitAnd 4294967295 v) 281470681808895 71777214294589695 1085102592571150095 3689348814741910323 6148914691236517205 refl refl refl refl refl (has v) (one-group 64 32 4294967295 v refl))
 
-pub none-apart : (v : ℕ) → bitAnd 4294967295 v ≡ 0 → 0 ≡ word 64 (atEven v)
+pub none-apart : (v : ℕ) → bitAnd 4294967295 v ≡ 0 → 0 ≡ word 64 (spaced 2 v)
 none-apart v e = sym (ap spreadOut e) ∙ apart-are v
+
+-- ---- 16 bits at every third place of 48
+
+module _ (a m1 m2 m3 m4 : ℕ) where
+  abbrev b1 : ℕ
+  b1 = bitAnd m1 (bitOr a (a * 2 ^ 16 % 2 ^ 64))
+
+  abbrev b2 : ℕ
+  b2 = bitAnd m2 (bitOr b1 (b1 * 2 ^ 8 % 2 ^ 64))
+
+  abbrev b3 : ℕ
+  b3 = bitAnd m3 (bitOr b2 (b2 * 2 ^ 4 % 2 ^ 64))
+
+  abbrev b4 : ℕ
+  b4 = bitAnd m4 (bitOr b3 (b3 * 2 ^ 2 % 2 ^ 64))
+
+  steps-of-three : m1 ≡ word 48 (λ p. ltb (p % 24) 8) → m2 ≡ word 48 (λ p. ltb (p % 12) 4) → m3 ≡ word 48 (λ p. ltb (p % 6) 2)
+      → m4 ≡ word 48 (λ p. ltb (p % 3) 1) → (f : ℕ → Bool) → Grouped 48 48 16 f a → Grouped 48 3 1 f b4
+  steps-of-three e1 e2 e3 e4 f k =
+      let short = lit≤ tt in
+      spread 48 3 1 m4 b3 f short (lit< tt) (lit≤ tt) e4 (spread 48 6 2 m3 b2 f short (lit< tt) (lit≤ tt) e3
+      (spread 48 12 4 m2 b1 f short (lit< tt) (lit≤ tt) e2 (spread 48 24 8 m1 a f short (lit< tt) (lit≤ tt) e1 k)))
+
+-- the masks of the code: groups of 8, 4, 2 and 1 bits
+abbrev spreadByThree : ℕ → ℕ
+spreadByThree a = b4 a 4278190335 1031043870735 13403570319555 40210710958665
+
+pub thirds-apart : (v : ℕ) → spreadByThree (bitAnd 65535 v) ≡ word 48 (spaced 3 v)
+unfolding word
+thirds-apart v =
+    single-bits 48 3 v (spreadByThree (bitAnd 65535 v)) (lt-of-le-of-lt (and-le-l 40210710958665 _) (lit< tt))
+    (steps-of-three (bitAnd 65535 v) 4278190335 1031043870735 13403570319555 40210710958665 refl refl refl refl (has v) (one-group 48 16 65535 v refl))
+
+pub no-thirds-apart : (v : ℕ) → bitAnd 65535 v ≡ 0 → 0 ≡ word 48 (spaced 3 v)
+no-thirds-apart v e = sym (ap spreadByThree e) ∙ thirds-apart v

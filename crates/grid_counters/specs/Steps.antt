@@ -13,14 +13,23 @@ use Rattle.grid_counters.specs.declared.judge.Judged.{Judged}
 pub record AreBits (n : ℕ) (f : ℕ → ℕ) (p : Planes) : Type 0 where
   pub lower : p .low ≡ word n (λ i. has (f i) 0)
   pub higher : p .high ≡ word n (λ i. has (f i) 1)
+  pub highest : p .top ≡ word n (λ i. has (f i) 2)
 
 -- bit p of counters f of w bits, one after the other
 abbrev pub bitOf : ℕ → (ℕ → ℕ) → ℕ → Bool
 bitOf w f p = has (f (p / w)) (p % w)
 
--- the bits of v at the even places, with 0 between
-abbrev pub atEven : ℕ → ℕ → Bool
-atEven v p = ltb (p % 2) 1 && has v (p / 2)
+-- the bits at every third place of v are f, 16 of them
+abbrev pub FromThirds : ℕ → (ℕ → Bool) → Type 0
+FromThirds v f = (i : ℕ) → i < 16 → has v (3 * i) ≡ f i
+
+-- a plane is made of those of four words
+abbrev pub FromFour : ℕ → ℕ → ℕ → ℕ → ℕ → Type 0
+FromFour a b c d r = (f : ℕ → Bool) → FromThirds a f → FromThirds b (λ i. f (16 + i)) → FromThirds c (λ i. f (32 + i)) → FromThirds d (λ i. f (48 + i)) → r ≡ word 64 f
+
+-- the bits of v at every d places, with 0 between
+abbrev pub spaced : ℕ → ℕ → ℕ → Bool
+spaced d v p = ltb (p % d) 1 && has v (p / d)
 
 -- the first q bytes are made of the bits f, or all bytes where there are fewer
 abbrev pub Filled : ℕ → (ℕ → Bool) → List ℕ → Type 0
@@ -33,6 +42,17 @@ Stores q n v before after = (f : ℕ → Bool) → Filled q f before → v ≡ w
 -- v has the bits of 32 counters of two bits, which are the lowest bits of two planes
 abbrev pub Pairs : ℕ → ℕ → ℕ → Type 0
 Pairs low high v = (f : ℕ → ℕ) → ((i : ℕ) → i < 32 → has low i ≡ has (f i) 0) → ((i : ℕ) → i < 32 → has high i ≡ has (f i) 1) → v ≡ word 64 (bitOf 2 f)
+
+-- v has the bits of 16 counters of three bits, which are the lowest bits of three planes
+abbrev pub Triples : ℕ → ℕ → ℕ → ℕ → Type 0
+Triples low high top v =
+    (f : ℕ → ℕ) → ((i : ℕ) → i < 16 → has low i ≡ has (f i) 0) → ((i : ℕ) → i < 16 → has high i ≡ has (f i) 1) → ((i : ℕ) → i < 16 → has top i ≡ has (f i) 2)
+    → v ≡ word 48 (bitOf 3 f)
+
+-- 64 counters of three bits, which have these planes, are stored from byte q on, as far as there are bytes: where the bytes before are those of the counters
+-- before, so are these
+abbrev pub StoresThrees : ℕ → Planes → List ℕ → List ℕ → Type 0
+StoresThrees q p before after = (f : ℕ → ℕ) (t : ℕ) → 8 * q ≡ 3 * t → AreBits 64 (λ i. f (t + i)) p → Filled q (bitOf 3 f) before → Filled (q + 24) (bitOf 3 f) after
 
 -- 128 counters of w bits, which have these planes, are stored as far as there are bytes
 abbrev pub StoresPlanes : ℕ → Planes → Planes → List ℕ → Type 0

@@ -1,4 +1,5 @@
-// A block's counters in bytes: how many bytes they take, which counters bytes hold, and the bytes of the counters of levels.
+// A block's counters in bytes: how many bytes they take, which counters bytes hold, the bytes of the counters of levels, and those of other bytes' counters.
+mod conversion;
 mod fill;
 mod judge;
 mod packing;
@@ -7,9 +8,10 @@ mod tally;
 
 use grid_sets::LEVELS;
 use grid_sets::LINES;
+use refusals::ACCEPTED;
 use refusals::WRONG_LENGTH;
 ghost use mathlib.Core.Path.{_≡_};
-ghost use Rattle.grid_counters.specs.Promises.{fit, roomy as isRoomy, packable as isPackable, Unpack, Pack};
+ghost use Rattle.grid_counters.specs.Promises.{fit, roomy as isRoomy, packable as isPackable, Unpack, Pack, Convert};
 
 // A block has at most so many counters: one for each of 64 rows and 64 columns.
 pub const COUNTERS: usize = 128;
@@ -98,5 +100,46 @@ pub fn pack(
             tally::first(r, c, rows),
             tally::second(c, rows),
         );
+    }
+}
+
+// What a conversion answers: 0 or the number of the refusal, and with refusal 4 the index of the first counter above K.
+pub struct Converted {
+    pub number: usize,
+    pub index: usize,
+}
+
+// Writes the counters that bytes hold at K as bytes at the target `to`, judged. Planes go to bytes as they came from bytes: it makes no sets.
+pub fn convert(
+    k: usize,
+    to: usize,
+    rows: usize,
+    columns: usize,
+    bytes: &[u8],
+    out: &mut [u8],
+) -> Converted
+    ensures { λ r. ⌜ Convert k to rows columns (now (bytes .entry)) (now (out .entry)) r (now (out .exit)) ⌝ }
+{
+    if !(roomy(k, rows, columns, bytes.len()) & packable(to, rows, columns, k, out.len())) {
+        return Converted {
+            number: WRONG_LENGTH,
+            index: 0,
+        };
+    }
+    let width = packing::width(k);
+    let first = planes::planes_from(bytes, width, 0);
+    let second = planes::planes_from(bytes, width, 64);
+    let clear = packing::spare_clear(bytes, width, rows + columns);
+    let j = conversion::judge_planes(
+        clear,
+        conversion::above(first, k),
+        conversion::above(second, k),
+    );
+    if j.number == ACCEPTED {
+        fill::fill(out, packing::width(to), first, second);
+    }
+    Converted {
+        number: j.number,
+        index: j.index,
     }
 }

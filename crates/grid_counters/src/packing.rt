@@ -8,7 +8,10 @@ ghost use Rattle.rdis.specs.Packing.{width as widthOf, bytesFor, spareClear};
 pub fn width(k: usize) -> usize
     ensures { λ r. ⌜ r ≡ widthOf k ⌝ }
 {
-    if k <= 1 { 1 } else { 2 }
+    if k <= 1 {
+        return 1;
+    }
+    if k <= 3 { 2 } else { 3 }
 }
 
 // How many bytes hold `count` counters.

@@ -12,9 +12,11 @@ ghost use Rattle.grid_counters.specs.Steps.{AreBits};
 fn with_set(p: Planes, s: u64) -> Planes
     ensures { λ r. ⌜ ((f : ℕ → ℕ) → AreBits 64 f p → AreBits 64 (λ i. num (has s i) + f i) r) ⌝ }
 {
+    let twos = p.low & s;
     Planes {
         low: p.low ^ s,
-        high: p.high ^ (p.low & s),
+        high: p.high ^ twos,
+        top: p.top ^ (p.high & twos),
     }
 }
 
@@ -24,7 +26,11 @@ pub fn tally(sets: &[u64; LEVELS], used: usize, n: usize) -> Planes
     ensures { λ r. ⌜ AreBits n (times (now (sets .entry)) used) r ⌝ }
 {
     let inside = words::low_bits(n);
-    let mut p = Planes { low: 0, high: 0 };
+    let mut p = Planes {
+        low: 0,
+        high: 0,
+        top: 0,
+    };
     let mut m = 0;
     while m < used {
         p = with_set(p, sets[m]);
@@ -33,6 +39,7 @@ pub fn tally(sets: &[u64; LEVELS], used: usize, n: usize) -> Planes
     Planes {
         low: inside & p.low,
         high: inside & p.high,
+        top: inside & p.top,
     }
 }
 
@@ -66,6 +73,7 @@ pub fn first(rows: Planes, columns: Planes, at: usize) -> Planes
     Planes {
         low: front(rows.low, columns.low, at),
         high: front(rows.high, columns.high, at),
+        top: front(rows.top, columns.top, at),
     }
 }
 
@@ -77,5 +85,6 @@ pub fn second(columns: Planes, at: usize) -> Planes
     Planes {
         low: back(columns.low, at),
         high: back(columns.high, at),
+        top: back(columns.top, at),
     }
 }

@@ -18,7 +18,7 @@ use Rattle.rdis.specs.Packing.{width, inOrder, unpacked, counter, rowCounter, c
 use Rattle.rdis.specs.Theorems.{Packs}
 use Rattle.rdis.proofs.LevelLaws.{levels-by-chain, one-depth}
 use Rattle.rdis.proofs.TakenLaws.{levels-counted, one-count}
-use Rattle.rdis.proofs.PackingLaws.{length-in-order, row-in-order, column-in-order, plan-below, packed-only}
+use Rattle.rdis.proofs.PackingLaws.{length-in-order, in-order-unpacked, plan-below, packed-only}
 use Rattle.rdis.proofs.CountLaws.{faults-are-cells}
 use Rattle.grid_promises.specs.Refusals.{ReadRefused, PlanRefused, StoreRefused}
 use Rattle.grid_promises.specs.Demands.{WellFormed, HeldLines, Greatest, ReadDemands, PlanDemands, StoreDemands}
@@ -58,22 +58,12 @@ lines w m n bs = record { rows = λ i _. counter-held w i bs; columns = λ j _. 
 -- well-formed bytes with these counters are the packed ones
 module _ (w m n : ℕ) (bs : List ℕ) (r c : ℕ → ℕ) (formed : WellFormed w (m + n) bs)
     (rows : (i : ℕ) → i < m → r i ≡ rowCounter w bs i) (columns : (j : ℕ) → j < n → c j ≡ columnCounter w m bs j) where
-  in-order : (t : ℕ) → t < m + n → getD (inOrder m n r c) t 0 ≡ counter w bs t
-  in-order t l = ⊎-elim
-      (λ p. row-in-order m n r c t p ∙ rows t p)
-      (λ p.
-      let q : t - m < n = omega arith in
-      let e : m + (t - m) ≡ t = omega arith in
-      ap (λ x. getD (inOrder m n r c) x 0) (sym e) ∙ column-in-order m n r c (t - m) q ∙ columns (t - m) q ∙ ap (counter w bs) e)
-      (lt-or-le t m)
-
   bytes-packed : Packs w (m + n) (inOrder m n r c) bs
-  unfolding unpacked
   bytes-packed = record {
     size = formed .size;
     bytes = formed .bytes;
     spare = not-false _ (false-iff _ (spare-iff w (m + n) bs) (formed .clear));
-    back = sym (list-getD (m + n) (counter w bs) 0 (inOrder m n r c) (length-in-order m n r c) in-order);
+    back = sym (in-order-unpacked m n r c w bs rows columns);
   }
 
 pub plan-exactly : (b : Block) (k : ℕ) (counters : List ℕ) (a : Answer) (counters′ : List ℕ) → PlanDemands b k counters a counters′ → PlanExactly b k counters a counters′

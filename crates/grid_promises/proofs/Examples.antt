@@ -1,20 +1,25 @@
--- A plan and a store that are promised, computed: case G2 of document 01; and a read and a store that are refused, with the index. Assumes nothing.
+-- A plan and a store that are promised, computed: case G2 of document 01; a read and a store that are refused, with the index; and a conversion that is
+-- accepted and one that is refused. Assumes nothing.
+use Prim.Native.Nat.{ℕ, zero, suc, _<_}
 use mathlib.Core.Path.{refl}
 use mathlib.Core.Bool.{xor}
-use mathlib.Core.List.{[], _∷_}
+use mathlib.Core.List.{List, [], _∷_}
 use native.Mathlib.Omega.{arith}
 use lib.Count.{ones, onesIn}
-use Rattle.bits.specs.Bits.{some, first, sum, most, list, has, word, words, number, digits}
+use lib.Dec.{lit<}
+use Rattle.bits.specs.Bits.{some, first, sum, most, list, has, word, words, number, digits, Below}
 use Rattle.rdis.specs.Block.{Block, bit, differs, faulty, count, faults}
 use Rattle.rdis.specs.Levels.{whole, takes, taken, left, levels, plan}
 use Rattle.rdis.specs.Cells.{flips, holds, stored, misreads}
-use Rattle.rdis.specs.Packing.{width, bytesFor, packed, counter, spareClear, above, firstAbove}
+use Rattle.rdis.specs.Packing.{width, bytesFor, packed, unpacked, counter, spareClear, above, firstAbove}
 use Rattle.grid_promises.specs.Calls.{inRange, countersSized, past, block, readNumber, planNumber, storeNumber, badIndex}
 use Rattle.grid_promises.specs.Promises.{Read, Plan, Store}
+use Rattle.grid_promises.specs.Conversion.{convertInRange, convertSized, convertNumber, Convert}
 use Rattle.grid_promises.specs.declared.Answer.{Answer}
 use Rattle.grid_promises.proofs.ReadDemands.{read-demands}
 use Rattle.grid_promises.proofs.PlanDemands.{plan-demands}
 use Rattle.grid_promises.proofs.StoreDemands.{store-demands}
+use Rattle.grid_promises.proofs.ConvertDemands.{convert-demands}
 
 -- one cell, stuck at 0, that should hold a 1
 abbrev pub G2 : Block
@@ -53,3 +58,25 @@ bad-store = store-demands G3 2 (0x30 ∷ []) (7 ∷ 8 ∷ []) named (7 ∷ 8 ∷
   faultsAre = λ z. absurd (omega arith);
   kindsAre = λ z. absurd (omega arith);
 })
+
+-- numbers that are written out are bytes
+no-bytes : Below 256 []
+no-bytes i = lit< tt
+
+byte-below : (x : ℕ) (xs : List ℕ) → x < 256 → Below 256 xs → Below 256 (x ∷ xs)
+byte-below x xs h f zero = h
+byte-below x xs h f (suc i) = f i
+
+-- two by three from K = 3 to K = 4: the counters 0, 1, 2, 3, 1 at two bits and at three
+pub good-convert : Convert 2 3 3 4 (0xE4 ∷ 0x01 ∷ []) (7 ∷ 8 ∷ []) (record { number = 0; index = 0 }) (0x88 ∷ 0x16 ∷ [])
+unfolding convertNumber convertInRange convertSized badIndex inRange countersSized above spareClear packed unpacked counter width bytesFor number digits list some
+good-convert = convert-demands 2 3 3 4 (0xE4 ∷ 0x01 ∷ []) (7 ∷ 8 ∷ []) (record { number = 0; index = 0 }) (0x88 ∷ 0x16 ∷ [])
+    (record { number = refl; indexIs = refl; untouched = λ l. absurd (omega arith); bytesAre = λ _. refl })
+    (byte-below 0xE4 (0x01 ∷ []) (lit< tt) (byte-below 0x01 [] (lit< tt) no-bytes))
+
+-- two by two from K = 2 to K = 4 with a 3 for column 0, which the target would allow
+pub bad-convert : Convert 2 2 2 4 (0x30 ∷ []) (7 ∷ 8 ∷ []) (record { number = 4; index = 2 }) (7 ∷ 8 ∷ [])
+unfolding convertNumber convertInRange convertSized badIndex firstAbove first inRange countersSized above spareClear counter width bytesFor number some
+bad-convert = convert-demands 2 2 2 4 (0x30 ∷ []) (7 ∷ 8 ∷ []) (record { number = 4; index = 2 }) (7 ∷ 8 ∷ [])
+    (record { number = refl; indexIs = refl; untouched = λ _. refl; bytesAre = λ z. absurd (omega arith) })
+    (byte-below 0x30 [] (lit< tt) no-bytes)

@@ -8,3 +8,10 @@ pub mod ByDemands
 pub mod PlanThenStore
 pub mod RefusalLaws
 pub mod IndexLaws
+pub mod ConvertLaws
+pub mod SameReads
+pub mod ConvertDemands
+pub mod OneConversion
+pub mod PlanThenConvert
+pub mod OldReads
+pub mod ConvertEdges

@@ -20,7 +20,7 @@ use Rattle.grid_promises.specs.declared.Answer.{Answer}
 use Rattle.grid_promises.proofs.RefusalLaws.{past-iff}
 
 -- a call is refused or accepted
-either-way : {A : Type 0} (number : ℕ) → (0 < number → A) → (number ≡ 0 → A) → A
+pub either-way : {A : Type 0} (number : ℕ) → (0 < number → A) → (number ≡ 0 → A) → A
 either-way number f g = ⊎-elim f (λ l. g (omega arith)) (lt-or-le 0 number)
 
 -- ---- a read

@@ -39,7 +39,7 @@ in-range m n k =
     Iff·trans (and-iff _ (between-iff _ _ m) _ (and-iff _ (between-iff _ _ n) _ (between-iff _ _ k)))
     (λ (x, (y, z)). record { rows = x; columns = y; levels = z }, λ r. (r .rows, (r .columns, r .levels)))
 
-counters-sized : (m n k counters : ℕ) → (countersSized m n k counters ≡ true) ↔ (counters ≡ bytesFor (width k) (m + n))
+pub counters-sized : (m n k counters : ℕ) → (countersSized m n k counters ≡ true) ↔ (counters ≡ bytesFor (width k) (m + n))
 unfolding countersSized
 counters-sized m n k counters = eqb-iff counters (bytesFor (width k) (m + n))
 
@@ -105,7 +105,7 @@ counter-held w t bs = (mod-lt (number 256 bs / 2 ^ (w * t)) (pow-pos w), λ q p.
 pub held-is : (w t x : ℕ) (bs : List ℕ) → Held w bs t x → counter w bs t ≡ x
 held-is w t x bs (l, f) = let (m, g) = counter-held w t bs in has-ext w (counter w bs t) x m l (λ q p. g q p ∙ sym (f q p))
 
-above-iff : (n k : ℕ) (counters : List ℕ) → (above k n counters ≡ true) ↔ Above k n counters
+pub above-iff : (n k : ℕ) (counters : List ℕ) → (above k n counters ≡ true) ↔ Above k n counters
 unfolding above
 above-iff n k counters = some-iff n _ _ (λ t. Iff·trans (ltb-iff k (counter (width k) counters t)) (
   λ h. (counter (width k) counters t, counter-held (width k) t counters, h),

@@ -1,4 +1,4 @@
--- What the three calls on grid blocks answer: the refusal that applies, and the blocks and counters they speak of. Assumes nothing.
+-- What a read, a plan and a store of grid blocks answer: the refusal that applies, and the blocks and counters they speak of. Assumes nothing.
 use Prim.Native.Nat.{ℕ, _+_, _^_}
 use mathlib.Core.Bool.{Bool, not, cond, _&&_, _||_}
 use mathlib.Core.List.{List}
@@ -18,7 +18,7 @@ between first last x = leb first x && leb x last
 
 -- refusal 1 does not apply
 unfoldable pub inRange : ℕ → ℕ → ℕ → Bool
-inRange m n k = between 1 64 m && (between 1 64 n && between 1 3 k)
+inRange m n k = between 1 64 m && (between 1 64 n && between 1 7 k)
 
 -- so many bytes are what the counters take
 unfoldable pub countersSized : ℕ → ℕ → ℕ → ℕ → Bool

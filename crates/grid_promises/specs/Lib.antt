@@ -3,3 +3,4 @@ pub mod Refusals
 pub mod Demands
 pub mod Promises
 pub mod Theorems
+pub mod Conversion

@@ -15,7 +15,7 @@ use Rattle.rdis.specs.Packing.{width, bytesFor}
 pub record InRange (m n k : ℕ) : Type 0 where
   pub rows : (1 ≤ m) × (m ≤ 64)
   pub columns : (1 ≤ n) × (n ≤ 64)
-  pub levels : (1 ≤ k) × (k ≤ 3)
+  pub levels : (1 ≤ k) × (k ≤ 7)
 
 -- every buffer that a read is lent is as long as it should be
 pub record ReadLengths (m n k cells counters out : ℕ) : Type 0 where

@@ -1,12 +1,17 @@
 -- What is proved of the promises themselves, of whatever code keeps them. Assumes nothing.
 use Prim.Native.Nat.{ℕ, _+_, _*_, _<_, _≤_}
 use mathlib.Core.Path.{_≡_}
-use mathlib.Core.Bool.{true}
+use mathlib.Core.Bool.{true, not, cond, _&&_, _||_}
 use mathlib.Core.List.{List}
 use mathlib.Core.Logic.{_↔_}
+use lib.Dec.{eqb, ltb}
 use lib.ListN.{length}
+use Rattle.bits.specs.Bits.{some, first}
 use Rattle.rdis.specs.Block.{Block, bit, stuck}
-use Rattle.rdis.specs.Theorems.{withValues}
+use Rattle.rdis.specs.Cells.{reading}
+use Rattle.rdis.specs.Packing.{bytesFor, counter, rowCounter, columnCounter, spareClear}
+use Rattle.rdis.specs.Theorems.{withValues, oldWidth}
+use Rattle.grid_promises.specs.Calls.{between, past}
 use Rattle.grid_promises.specs.Refusals.{Past}
 use Rattle.grid_promises.specs.Demands.{CountsKinds, BoundsLevels, ReadDemands, PlanDemands, StoreDemands}
 use Rattle.grid_promises.specs.Promises.{ReadExactly, Read, PlanExactly, Plan, StoreExactly, Store}
@@ -106,3 +111,22 @@ abbrev pub StoreIgnoresSound : Type 0
 StoreIgnoresSound =
     (b : Block) (v : List ℕ) (k : ℕ) (counters cells : List ℕ) (a a′ : Answer) (x x′ : List ℕ)
     → SameWhereStuck b v → Store b k counters cells a x → Store (withValues b v) k counters cells a′ x′ → (a ≡ a′) × (x ≡ x′)
+
+-- ---- up to three levels a read is what it was before there were more
+
+-- its number then: K from 1 to 3, and counters of the old width
+abbrev pub oldReadNumber : ℕ → ℕ → ℕ → List ℕ → List ℕ → ℕ → ℕ
+oldReadNumber m n k cells counters out =
+    cond (not (between 1 64 m && (between 1 64 n && between 1 3 k))) 1
+    (cond (not ((eqb (length cells) m && eqb out m) && eqb (length counters) (bytesFor (oldWidth k) (m + n)))) 2
+    (cond (past n cells || not (spareClear (oldWidth k) (m + n) counters)) 3 (cond (some (m + n) (λ t. ltb k (counter (oldWidth k) counters t))) 4 0)))
+
+pub record OldRead (m n k : ℕ) (cells counters out : List ℕ) (a : ReadAnswer) (x : List ℕ) : Type 0 where
+  pub number : a .number ≡ oldReadNumber m n k cells counters (length out)
+  pub index : a .index ≡ cond (eqb (a .number) 4) (first (m + n) (λ t. ltb k (counter (oldWidth k) counters t))) 0
+  pub untouched : 0 < a .number → x ≡ out
+  pub shown : a .number ≡ 0 → x ≡ reading m n (rowCounter (oldWidth k) counters) (columnCounter (oldWidth k) m counters) cells
+
+abbrev pub OldReadKept : Type 0
+OldReadKept =
+    (m n k : ℕ) (cells counters out : List ℕ) (a : ReadAnswer) (x : List ℕ) → k ≤ 3 → ReadExactly m n k cells counters out a x → OldRead m n k cells counters out a x

@@ -1,6 +1,6 @@
 -- The levels by induction, and by chains: when a plan is refused, and how many levels it uses. Assumes nothing.
 use Prim.Native.Nat.{ℕ, zero, suc, _+_, _-_, _*_, _≤_, _<_}
-use mathlib.Core.Path.{_≡_, refl, subst}
+use mathlib.Core.Path.{_≡_, refl, ap, subst, _∙_}
 use mathlib.Core.Bool.{Bool, true, false, not}
 use mathlib.Core.List.{[], _∷_}
 use mathlib.Core.Logic.{_↔_, _≢_, ⊎-elim, Iff·symm}
@@ -13,7 +13,7 @@ use Rattle.rdis.specs.Block.{Block}
 use Rattle.rdis.specs.Levels.{Subgrid, whole, takesRow, taken, left, Outcome, masked, unmaskable, none, more, levels, plan}
 use Rattle.rdis.specs.Chains.{HasChain, SomeWrong}
 use Rattle.rdis.specs.Facts.{LevelsUsed}
-use Rattle.rdis.specs.Theorems.{RefusedByChain, LevelsByChain, OneDepth, NoChainEmpty}
+use Rattle.rdis.specs.Theorems.{RefusedByChain, MoreAllowed, LevelsByChain, OneDepth, NoChainEmpty}
 use Rattle.rdis.proofs.Walks.{twice, twice-is}
 use Rattle.rdis.proofs.Taking.{Long, long-suc, long-zero, long-le, long-whole, some-wrong}
 
@@ -86,6 +86,24 @@ refused-by-chain b k = (λ e. chain-long b k .1 (subst (Ends b k true (whole b))
     go : (o : Outcome) → Ends b k true (whole b) o → Long b true (whole b) k → o ≡ unmaskable
     go unmaskable f h = refl
     go (masked l r c) f h = let y : k < l = f .1 k .0 h in absurd (omega arith)
+
+-- levels that mask the faults do so with more allowed
+abbrev Kept : Block → ℕ → Bool → Subgrid → Outcome → Type 0
+Kept b k w s unmaskable = Unit {0}
+Kept b k w s (masked l r c) = (k′ : ℕ) → k ≤ k′ → levels b k′ w s ≡ masked l r c
+
+kept-next : (b : Block) (k : ℕ) (w : Bool) (s : Subgrid) (o : Outcome) → left b w s ≡ true → Kept b k (not w) (taken b w s) o → Kept b (suc k) w s (more (taken b w s) o)
+kept-next b k w s unmaskable e h = tt
+kept-next b k w s (masked l r c) e h = go
+  where
+    go : (k′ : ℕ) → suc k ≤ k′ → levels b k′ w s ≡ more (taken b w s) (masked l r c)
+    go zero q = absurd (omega arith)
+    go (suc k′) q = levels-next b k′ w s e ∙ ap (more (taken b w s)) (h k′ (omega arith))
+
+pub more-allowed : MoreAllowed
+unfolding plan
+more-allowed b k k′ l r c h e =
+    subst (Kept b k true (whole b)) e (levels-ind b (Kept b) (λ k w s n k′ _. levels-none b k′ w s n) (λ w s _. tt) (kept-next b) k true (whole b)) k′ h
 
 -- ---- 2. the levels used
 

@@ -4,9 +4,9 @@ use mathlib.Core.Path.{_≡_, refl, sym, ap, subst, _∙_}
 use mathlib.Core.Bool.{true}
 use mathlib.Core.List.{List}
 use mathlib.Core.Logic.{⊎-elim}
-use native.Mathlib.Nat.{mod-lt, div-add-mod, lt-of-lt-of-le}
+use native.Mathlib.Nat.{mod-lt, mod-eq-of-lt, div-eq-of-lt, div-add-mod, lt-of-lt-of-le, mul-le-mul-left}
 use native.Mathlib.Omega.{arith}
-use borrow.Author.Tests.{lt-ltb, ltb-true}
+use borrow.Author.Tests.{lt-ltb, ltb-true, le-leb, lt-leb}
 use lib.Dec.{lit<}
 use lib.ListN.{length, getD, length-append, List·getD-append}
 use lib.Pow.{pow-pos, pow-mono}
@@ -20,7 +20,7 @@ use Rattle.bits.proofs.DigitLaws.{number-lt, digits-number, number-digits, leng
 use Rattle.rdis.specs.Block.{Block}
 use Rattle.rdis.specs.Packing.{width, bytesFor, inOrder, packed, unpacked, counter, spareClear}
 use Rattle.rdis.specs.Cells.{stored}
-use Rattle.rdis.specs.Theorems.{Masked, Packs, PackedOnly, FewestBytes, CounterBits, PackedBits, SpareBits, CountersBack, WidthHolds, ReadBackPacked}
+use Rattle.rdis.specs.Theorems.{Masked, Packs, PackedOnly, FewestBytes, CounterBits, PackedBits, SpareBits, CountersBack, WidthHolds, oldWidth, OldWidthKept, ThreeBits, ReadBackPacked}
 use Rattle.rdis.proofs.LevelLaws.{levels-by-chain}
 use Rattle.rdis.proofs.CounterLaws.{counters-at-most}
 use Rattle.rdis.proofs.CellLaws.{reading-ext, read-back}
@@ -101,6 +101,17 @@ spare-bits w n bs h = (
 
 -- ---- counters one by one
 
+-- past the last of them, where no spare bit is 1, is 0
+pub counter-past : (w n t : ℕ) (bs : List ℕ) → spareClear w n bs ≡ true → n ≤ t → counter w bs t ≡ 0
+unfolding counter
+counter-past w n t bs h l =
+    ap (λ x. x % 2 ^ w) (div-eq-of-lt (lt-of-lt-of-le (clear-fits w n bs h) (pow-mono (mul-le-mul-left w l)))) ∙ mod-eq-of-lt (pow-pos w)
+
+-- the first n counters of bytes are as many
+pub length-unpacked : (w n : ℕ) (bs : List ℕ) → length (unpacked w n bs) ≡ n
+unfolding unpacked
+length-unpacked w n bs = length-list n (counter w bs)
+
 pub counter-unpacked : (w n t : ℕ) (bs : List ℕ) → t < n → getD (unpacked w n bs) t 0 ≡ counter w bs t
 unfolding unpacked
 counter-unpacked w n t bs l = getD-list n (counter w bs) 0 t l
@@ -129,6 +140,17 @@ module _ (m n : ℕ) (r c : ℕ → ℕ) where
           let e : m + (t - m) ≡ t = omega arith in
           subst (λ x. getD (inOrder m n r c) x 0 < b) e (rw (column-in-order (t - m) (omega arith)) (k (t - m) (omega arith)))
 
+  -- the counters of bytes, in their order
+  pub in-order-unpacked : (w : ℕ) (bs : List ℕ) → ((i : ℕ) → i < m → r i ≡ counter w bs i) → ((j : ℕ) → j < n → c j ≡ counter w bs (m + j)) → inOrder m n r c ≡ unpacked w (m + n) bs
+  unfolding unpacked
+  in-order-unpacked w bs rows columns = list-getD (m + n) (counter w bs) 0 (inOrder m n r c) length-in-order (λ t l. ⊎-elim
+      (λ p. row-in-order t p ∙ rows t p)
+      (λ p.
+      let q : t - m < n = omega arith in
+      let e : m + (t - m) ≡ t = omega arith in
+      ap (λ x. getD (inOrder m n r c) x 0) (sym e) ∙ column-in-order (t - m) q ∙ columns (t - m) q ∙ ap (counter w bs) e)
+      (lt-or-le t m))
+
 pub counters-back : CountersBack
 counters-back w m n r c h k =
     let below = in-order-below m n r c (2 ^ w) (pow-pos w) h k in
@@ -139,13 +161,26 @@ counters-back w m n r c h k =
 
 -- ---- of a plan
 
+pub three-bits : ThreeBits
+unfolding width
+three-bits k h = rw (lt-leb k 1 (omega arith), lt-leb k 3 (omega arith))
+
 pub width-holds : WidthHolds
 unfolding width
 width-holds zero h = lit< tt
 width-holds (suc zero) h = lit< tt
 width-holds (suc (suc zero)) h = lit< tt
 width-holds (suc (suc (suc zero))) h = lit< tt
-width-holds (suc (suc (suc (suc k)))) h = absurd (omega arith)
+width-holds (suc (suc (suc (suc k)))) h = rw (three-bits (suc (suc (suc (suc k)))) (omega arith)) (omega arith)
+
+old-width : (k : ℕ) → k ≤ 3 → width k ≡ oldWidth k
+unfolding width
+old-width k h = rw (le-leb k 3 h)
+
+pub old-width-kept : OldWidthKept
+old-width-kept k h =
+    let same = old-width k h in
+    record { bits = same; packs = λ cs. ap (λ w. packed w cs) same; unpacks = λ n bs. ap (λ w. unpacked w n bs) same; reads = λ m n bs cells. rw same }
 
 module _ (b : Block) (k l : ℕ) (r c : ℕ → ℕ) (e : Masked b k l r c) where
   plan-lt : (v : ℕ) → k < v → ((i : ℕ) → r i < v) × ((j : ℕ) → c j < v)

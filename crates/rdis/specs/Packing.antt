@@ -8,7 +8,7 @@ use Rattle.bits.specs.Bits.{some, first, list, number, digits}
 
 -- the bits of a counter where k levels are allowed
 unfoldable pub width : ℕ → ℕ
-width k = cond (leb k 1) 1 2
+width k = cond (leb k 1) 1 (cond (leb k 3) 2 3)
 
 -- the bytes that hold n counters of w bits
 unfoldable pub bytesFor : ℕ → ℕ → ℕ

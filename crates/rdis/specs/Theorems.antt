@@ -2,9 +2,10 @@
 -- and columns, w a width in bits. Assumes nothing.
 use Prim.Native.Nat.{ℕ, _+_, _*_, _/_, _%_, _^_, _<_, _≤_}
 use mathlib.Core.Path.{_≡_}
-use mathlib.Core.Bool.{Bool, true, false}
+use mathlib.Core.Bool.{Bool, true, false, cond}
 use mathlib.Core.List.{List}
 use mathlib.Core.Logic.{_↔_}
+use lib.Dec.{leb}
 use lib.ListN.{length, getD}
 use Rattle.bits.specs.Bits.{has, at, bytes, Below}
 use Rattle.rdis.specs.Block.{Block, Sized, bit, stuck, wrong, stuckCells, faultyCells, faults}
@@ -23,6 +24,10 @@ Masked b k l r c = plan b k ≡ masked l r c
 -- with k levels a plan fails exactly where there is a chain of 2k + 1 cells
 abbrev pub RefusedByChain : Type 0
 RefusedByChain = (b : Block) (k : ℕ) → (plan b k ≡ unmaskable) ↔ HasChain b (2 * k + 1)
+
+-- where a plan masks the faults, one with more levels does the same
+abbrev pub MoreAllowed : Type 0
+MoreAllowed = (b : Block) (k k′ l : ℕ) (r c : ℕ → ℕ) → k ≤ k′ → Masked b k l r c → Masked b k′ l r c
 
 -- ---- 2. the levels used
 
@@ -132,7 +137,26 @@ LevelsReached = (b : Block) (k l : ℕ) (r c : ℕ → ℕ) → Masked b k l r c
 
 -- the levels allowed fit their width
 abbrev pub WidthHolds : Type 0
-WidthHolds = (k : ℕ) → k ≤ 3 → k < 2 ^ width k
+WidthHolds = (k : ℕ) → k ≤ 7 → k < 2 ^ width k
+
+-- the bits of a counter as long as there were at most three levels
+abbrev pub oldWidth : ℕ → ℕ
+oldWidth k = cond (leb k 1) 1 2
+
+-- up to three levels the width is still that: so counters have the bytes that they had, bytes hold the counters that they held, and cells read as they did
+pub record AsBefore (k : ℕ) : Type 0 where
+  pub bits : width k ≡ oldWidth k
+  pub packs : (cs : List ℕ) → packed (width k) cs ≡ packed (oldWidth k) cs
+  pub unpacks : (n : ℕ) (bs : List ℕ) → unpacked (width k) n bs ≡ unpacked (oldWidth k) n bs
+  pub reads : (m n : ℕ) (bs cells : List ℕ)
+      → reading m n (rowCounter (width k) bs) (columnCounter (width k) m bs) cells ≡ reading m n (rowCounter (oldWidth k) bs) (columnCounter (oldWidth k) m bs) cells
+
+abbrev pub OldWidthKept : Type 0
+OldWidthKept = (k : ℕ) → k ≤ 3 → AsBefore k
+
+-- from four to seven levels a counter has three bits
+abbrev pub ThreeBits : Type 0
+ThreeBits = (k : ℕ) → 4 ≤ k → width k ≡ 3
 
 -- so the stored cells read as the data by the counters from the packed bytes
 abbrev pub ReadBackPacked : Type 0

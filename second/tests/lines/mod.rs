@@ -9,8 +9,8 @@ pub fn junk(bytes: usize) -> String {
 }
 
 /// Checks that the cases have these names and print these lines.
-pub fn check(cases: &[(&str, Call)], lines: &[(&str, String)]) {
-    let names: Vec<&str> = cases.iter().map(|(name, _)| *name).collect();
+pub fn check(cases: &[(String, Call)], lines: &[(&str, String)]) {
+    let names: Vec<&str> = cases.iter().map(|(name, _)| name.as_str()).collect();
     let expected: Vec<&str> = lines.iter().map(|(name, _)| *name).collect();
     assert_eq!(names, expected);
     for ((name, call), (_, line)) in cases.iter().zip(lines) {

@@ -19,8 +19,8 @@ room c = let a = c .before .before .before .args in packs (a .k) (a .rows) (a .c
 abbrev test : tie.After-width → tie.Then1
 test w = w .before .before .before .before .before .before
 
--- the width is 1 or 2
-narrow : (w : tie.After-width) → (0 < w .width .result) × (w .width .result ≤ 2)
+-- the width is 1, 2 or 3
+narrow : (w : tie.After-width) → (0 < w .width .result) × (w .width .result ≤ 3)
 narrow w = let k = test w .before .before .before .args .k in (omega (arith, w .width .ensures, width-some k), omega (arith, w .width .ensures, width-few k))
 
 pub pack-spec : {M : Type 1} → statement M

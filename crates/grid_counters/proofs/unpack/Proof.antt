@@ -24,8 +24,8 @@ fits e = sym (e .before .roomy .ensures) ∙ not-false _ (e .if1 .left)
 room : (e : tie.Else1) → let a = begin e .args in Room (a .k) (a .rows) (a .columns) (length (a .bytes .now))
 room e = let a = begin e .args in has-room (a .k) (a .rows) (a .columns) (length (a .bytes .now)) (fits e)
 
--- the width is 1 or 2
-narrow : (e : tie.After-width) → (0 < e .width .result) × (e .width .result ≤ 2)
+-- the width is 1, 2 or 3
+narrow : (e : tie.After-width) → (0 < e .width .result) × (e .width .result ≤ 3)
 narrow e = let k = begin (e .before) .args .k in (omega (arith, e .width .ensures, width-some k), omega (arith, e .width .ensures, width-few k))
 
 pub unpack-spec : {M : Type 1} → statement M
@@ -58,8 +58,8 @@ unpack-spec =
     let e = w .before in
     let a = begin e .args in
     let f = counter (width (a .k)) (a .bytes .now) in
-    let four = counter-few (a .k) (a .bytes .now) in
+    let few = counter-few (a .k) (a .bytes .now) in
     let first = bits-ext 64 _ f _ (λ i _. ap f (omega arith)) (rw (w .width .ensures) at (q .before .before .before .before .planes-from .ensures)) in
     let second = rw (w .width .ensures) at (q .before .before .before .planes-from2 .ensures) in
-    judged (a .k) (a .rows) (a .columns) (a .bytes .now) _ _ (fits e) (q .before .before .sets .ensures f four first second ∙ sets-ext (a .rows) _ f (λ i _. ap f (omega arith)))
-    (q .before .sets2 .ensures f four first second) (q .spare-clear .result) (c .judge .result) (rw (w .width .ensures) at (q .spare-clear .ensures)) (c .judge .ensures)))
+    judged (a .k) (a .rows) (a .columns) (a .bytes .now) _ _ (fits e) (q .before .before .sets .ensures f few first second ∙ sets-ext (a .rows) _ f (λ i _. ap f (omega arith)))
+    (q .before .sets2 .ensures f few first second) (q .spare-clear .result) (c .judge .result) (rw (w .width .ensures) at (q .spare-clear .ensures)) (c .judge .ensures)))

@@ -17,6 +17,8 @@ answer-spec =
     (λ c κs. whole-by _ (c .before .match .keys4) (c .before .before .before .before .pre))
     -- grid-store-requires
     (λ c κs. whole-by _ (c .before .match .keys5) (c .before .before .before .before .pre))
+    -- grid-convert-requires
+    (λ c κs. whole-by _ (c .before .match .keys6) (c .before .before .before .before .pre))
     -- same-length
     (λ c. c .before .before .pointer-write .kept .1 .0)
     -- returns
@@ -37,5 +39,11 @@ answer-spec =
     (λ c. c .before .before .grid-store .kept .1 .0)
     -- returns-5
     (λ c. line-by _ (c .before .before .before .before .match .keys5) (c .before .before .grid-store .ensures))
+    -- same-length-6
+    (λ c. c .before .before .grid-convert .kept .1 .0)
     -- returns-6
-    (λ c. let t = c .match .rest in absurd (not-whole _ _ (no-form _ (t .0 .0 .0 .0 .1) (t .0 .0 .0 .1) (t .0 .0 .1) (t .0 .1) (t .1)) (c .before .before .before .pre))))
+    (λ c. line-by _ (c .before .before .before .before .match .keys6) (c .before .before .grid-convert .ensures))
+    -- returns-7
+    (λ c.
+    let t = c .match .rest in
+    absurd (not-whole _ _ (no-form _ (t .0 .0 .0 .0 .0 .1) (t .0 .0 .0 .0 .1) (t .0 .0 .0 .1) (t .0 .0 .1) (t .0 .1) (t .1)) (c .before .before .before .pre))))

@@ -1,0 +1,81 @@
+-- What is demanded of a conversion holds of every one that ends exactly as it should, and readings stay what they were. Assumes nothing.
+use Prim.Native.Nat.{ℕ, _+_, _<_}
+use mathlib.Core.Path.{_≡_, sym, ap, subst, _∙_}
+use mathlib.Core.List.{List}
+use native.Mathlib.Omega.{arith}
+use borrow.Author.Tests.{not-false}
+use lib.ListN.{length}
+use Rattle.bits.specs.Bits.{Below}
+use Rattle.bits.specs.Lowest.{Lowest}
+use Rattle.bits.proofs.TestLaws.{false-iff}
+use Rattle.rdis.specs.Packing.{width, packed, unpacked, counter}
+use Rattle.rdis.proofs.PackingLaws.{pack-unpack}
+use Rattle.grid_promises.specs.Demands.{WellFormed}
+use Rattle.grid_promises.specs.Promises.{ReadExactly}
+use Rattle.grid_promises.specs.Conversion.{ConvertRefused, ConvertExactly, Convert}
+use Rattle.grid_promises.specs.declared.ReadAnswer.{ReadAnswer}
+use Rattle.grid_promises.specs.declared.ConvertAnswer.{ConvertAnswer}
+use Rattle.grid_promises.proofs.RefusalLaws.{spare-iff}
+use Rattle.grid_promises.proofs.IndexLaws.{index-names}
+use Rattle.grid_promises.proofs.ConvertLaws.{convert-4, convert-lowest, held-over}
+use Rattle.grid_promises.proofs.ConvertLaws.{convert-range, convert-lengths, convert-clear, convert-few, convert-formed, convert-same}
+use Rattle.grid_promises.proofs.SameReads.{Readable, same-reading}
+
+module _ (m n k k′ : ℕ) (counters out : List ℕ) (a : ConvertAnswer) (after : List ℕ) (e : ConvertExactly m n k k′ counters out a after) where
+  abbrev Refused : ℕ → Type 0
+  Refused = ConvertRefused m n k k′ counters (length out)
+
+  lowest-refusal : Lowest Refused (a .number)
+  lowest-refusal = subst (Lowest Refused) (sym (e .number)) (convert-lowest m n k k′ counters (length out))
+
+  -- it is accepted
+  module _ (z : a .number ≡ 0) where
+    none : (y : ℕ) → Refused y → ⊥
+    none = lowest-refusal .none z
+
+    formed : WellFormed (width k′) (m + n) after
+    formed = subst (WellFormed (width k′) (m + n)) (sym (e .bytesAre z)) (convert-formed m n k k′ counters (length out) none)
+
+    same : (t : ℕ) → t < m + n → counter (width k′) after t ≡ counter (width k) counters t
+    same t l = ap (λ bs. counter (width k′) bs t) (e .bytesAre z) ∙ convert-same m n k k′ counters (length out) none t l
+
+    before-readable : Readable m n k counters
+    before-readable = record {
+      range = convert-range m n k k′ counters (length out) none .before;
+      size = convert-lengths m n k k′ counters (length out) none .counterBytes;
+      clear = convert-clear m n k k′ counters (length out) none;
+      few = convert-few m n k k′ counters (length out) none;
+    }
+
+    after-readable : Readable m n k′ after
+    after-readable = record {
+      range = convert-range m n k k′ counters (length out) none .after;
+      size = formed .size;
+      clear = not-false _ (false-iff _ (spare-iff (width k′) (m + n) after) (formed .clear));
+      few = λ t l. omega (arith, same t l, convert-few m n k k′ counters (length out) none t l, convert-range m n k k′ counters (length out) none .larger);
+    }
+
+    pub reads-same : (cells o : List ℕ) (r r′ : ReadAnswer) (x x′ : List ℕ)
+        → ReadExactly m n k cells counters o r x → ReadExactly m n k′ cells after o r′ x′ → (r ≡ r′) × (x ≡ x′)
+    reads-same = same-reading m n k k′ counters after before-readable after-readable same
+
+    -- at an equal target bytes are packed again as they were
+    same-bytes : Below 256 counters → k ≡ k′ → after ≡ counters
+    same-bytes bytes q =
+        e .bytesAre z ∙ ap (λ l. packed (width l) (unpacked (width k) (m + n) counters)) (sym q)
+        ∙ pack-unpack (width k) (m + n) counters (before-readable .size) bytes (before-readable .clear)
+
+  pub convert-demands : Below 256 counters → Convert m n k k′ counters out a after
+  convert-demands bytes = record {
+    exactly = e;
+    demands = record {
+      lowest = lowest-refusal;
+      names = index-names k (m + n) counters (a .number) (a .index)
+          (λ z. convert-4 m n k k′ counters (length out) (subst Refused z (lowest-refusal .applies (omega arith)))) (e .indexIs);
+      untouched = e .untouched;
+      wellFormed = formed;
+      kept = λ z t x l. held-over (width k) (width k′) t x counters after (same z t l);
+    };
+    equalTarget = λ z. same-bytes z bytes;
+    readsSame = λ z cells o r r′ x x′ f g. reads-same z cells o r r′ x x′ (f .exactly) (g .exactly);
+  }
