@@ -18,9 +18,9 @@ use Rattle.rdis.specs.Packing.{width, unpacked, counter, above, firstAbove, spa
 use Rattle.rdis.proofs.PackingLaws.{counter-past, counter-unpacked, length-unpacked}
 use Rattle.grid_sets.specs.Sets.{setsOf, firstLine}
 use Rattle.grid_sets.proofs.SetLaws.{some-line, first-line}
-use Rattle.grid_counters.specs.declared.planes.Planes.{Planes}
+use Rattle.grid_counters.specs.declared.threes.Threes.{Threes}
 use Rattle.grid_counters.specs.declared.judge.Judged.{Judged}
-use Rattle.grid_counters.specs.Steps.{AreBits, Judges, StoresPlanes}
+use Rattle.grid_counters.specs.Steps.{AreThrees, Judges, FillsPlanes}
 use Rattle.grid_counters.specs.Promises.{roomy, convertible, convertNumber, Convert}
 use Rattle.grid_counters.proofs.PackLaws.{width-some}
 use Rattle.grid_counters.proofs.FillLaws.{stored-packed}
@@ -161,14 +161,14 @@ module _ (k k′ m n : ℕ) (bs before : List ℕ) where
         same t = ⊎-elim (counter-unpacked (width k) (m + n) t bs)
             (λ l. past-end numbers t (omega (arith, length-unpacked (width k) (m + n) bs)) ∙ sym (counter-past (width k) (m + n) t bs (judged .0) l)) (lt-or-le t (m + n))
 
-        pub convert-done : (first second : Planes) → AreBits 64 f first → AreBits 64 (λ i. f (64 + i)) second → (w : ℕ) → w ≡ width k′ → (after : List ℕ)
-            → length after ≡ length before → StoresPlanes w first second after → Convert k k′ m n bs before (record { number = j .number; index = j .index }) after
+        pub convert-done : (first second : Threes) → AreThrees 64 f first → AreThrees 64 (λ i. f (64 + i)) second → (w : ℕ) → w ≡ width k′ → (after : List ℕ)
+            → length after ≡ length before → FillsPlanes w first second after → Convert k k′ m n bs before (record { number = j .number; index = j .index }) after
         convert-done first second a b w v after l s = record {
           number = number-is;
           names = names .0;
           namesNone = names .1;
           bytes = λ _.
               stored-packed (width k′) (m + n) numbers f after (width-some k′) (few (judged .0)) (length-unpacked (width k) (m + n) bs) fit same
-              (l ∙ convert-fits .1 .size) (subst (λ x. StoresPlanes x first second after) v s f a b);
+              (l ∙ convert-fits .1 .size) (subst (λ x. FillsPlanes x first second after) v s f a b);
           untouched = λ h. absurd (omega (arith, z));
         }

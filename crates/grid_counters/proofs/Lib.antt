@@ -4,9 +4,10 @@ pub mod SpreadLaws
 pub mod SpacedLaws
 pub mod PackLaws
 pub mod PlaneLaws
-pub mod ThresholdLaws
 pub mod TallyLaws
+pub mod ThreeLaws
 pub mod FillLaws
+pub mod ThreeFillLaws
 pub mod JudgeLaws
 pub mod PromiseLaws
 pub mod ConvertLaws

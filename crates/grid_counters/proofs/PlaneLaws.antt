@@ -20,8 +20,8 @@ use Rattle.bits.proofs.ByteLaws.{words-ext}
 use Rattle.rdis.specs.Packing.{counter}
 use Rattle.grid_sets.specs.Sets.{setsOf}
 use Rattle.grid_counters.specs.declared.planes.Planes.{Planes}
-use Rattle.grid_counters.specs.Steps.{AreBits, FromThirds, FromFour}
-use Rattle.grid_counters.proofs.ShiftLaws.{moved-low, moved-high, masked-word, joined, joined-short}
+use Rattle.grid_counters.specs.Steps.{AreBits}
+use Rattle.grid_counters.proofs.ShiftLaws.{moved-low, moved-high, masked-word, joined}
 use Rattle.grid_counters.proofs.PackLaws.{window, window-more}
 
 -- ---- eight bytes
@@ -79,7 +79,7 @@ unfolding counter
 no-bit w t k bs h = has-high w (number 256 bs / 2 ^ (w * t) % 2 ^ w) k (mod-lt _ (pow-pos w)) h
 
 -- so a plane of counters that have no such bit is 0
-no-plane : (w first k : ℕ) (bs : List ℕ) → w ≤ k → 0 ≡ word 64 (λ i. has (counter w bs (first + i)) k)
+pub no-plane : (w first k : ℕ) (bs : List ℕ) → w ≤ k → 0 ≡ word 64 (λ i. has (counter w bs (first + i)) k)
 no-plane w first k bs h = is-word 64 0 _ (pow-pos 64) (λ i _. has-zero i ∙ sym (no-bit w (first + i) k bs h))
 
 -- 32 bits and 32 bits, side by side
@@ -88,14 +88,14 @@ pub side-by-side : (x y : ℕ) (g h f : ℕ → Bool) → x ≡ word 32 g → y 
 side-by-side x y g h f ex ey eg eh = joined 32 32 x y f (lit< tt) (lit≤ tt) (ex ∙ word-ext 32 g f eg) (ey ∙ word-ext 32 h (λ i. f (32 + i)) eh)
 
 -- x has the n bits of the bytes from bit p on
-abbrev Bits : ℕ → ℕ → List ℕ → ℕ → Type 0
+abbrev pub Bits : ℕ → ℕ → List ℕ → ℕ → Type 0
 Bits p n bs x = (j : ℕ) → j < n → has x j ≡ has (number 256 bs) (p + j)
 
-from-byte : (p x : ℕ) (bs : List ℕ) → x ≡ number 256 bs / 2 ^ (8 * p) % 2 ^ 64 → Bits (8 * p) 64 bs x
+pub from-byte : (p x : ℕ) (bs : List ℕ) → x ≡ number 256 bs / 2 ^ (8 * p) % 2 ^ 64 → Bits (8 * p) 64 bs x
 from-byte p x bs e j l = ap (λ y. has y j) e ∙ bit-loaded p j (number 256 bs) l
 
 -- bit q of a counter, at any width w: where it stands in them
-at-place : (w p n x : ℕ) (bs : List ℕ) → Bits p n bs x → (q i u : ℕ) → q < w → q + w * i < n → p + w * i ≡ w * u → has x (q + w * i) ≡ has (counter w bs u) q
+pub at-place : (w p n x : ℕ) (bs : List ℕ) → Bits p n bs x → (q i u : ℕ) → q < w → q + w * i < n → p + w * i ≡ w * u → has x (q + w * i) ≡ has (counter w bs u) q
 at-place w p n x bs b q i u h l s =
     let place : p + (q + w * i) ≡ w * u + q = omega arith in
     b (q + w * i) l ∙ ap (has (number 256 bs)) place ∙ sym (counter-bit w u q bs h)
@@ -106,13 +106,12 @@ moved-place w p n x bs b q i u h l s = has-shr x q (w * i) ∙ at-place w p n x 
 
 module _ (first : ℕ) (bs : List ℕ) where
   -- counters of one bit are the bits as they stand
-  pub single-planes : first % 8 ≡ 0 → (x : ℕ) → x ≡ number 256 bs / 2 ^ (8 * (first / 8)) % 2 ^ 64 → AreBits 64 (λ i. counter 1 bs (first + i)) (record { low = x; high = 0; top = 0 })
+  pub single-planes : first % 8 ≡ 0 → (x : ℕ) → x ≡ number 256 bs / 2 ^ (8 * (first / 8)) % 2 ^ 64 → AreBits 64 (λ i. counter 1 bs (first + i)) (record { low = x; high = 0 })
   single-planes h x e = record {
     lower = is-word 64 x _ (rw e (mod-lt _ (pow-pos 64)))
         (λ i l. let here : i ≡ 0 + 1 * i = omega arith in
         ap (has x) here ∙ at-place 1 (8 * (first / 8)) 64 x bs (from-byte (first / 8) x bs e) 0 i (first + i) (lit< tt) (omega arith) (omega arith));
     higher = no-plane 1 first 1 bs (lit≤ tt);
-    highest = no-plane 1 first 2 bs (lit≤ tt);
   }
 
   -- what a plane says that is made of two words
@@ -121,11 +120,10 @@ module _ (first : ℕ) (bs : List ℕ) where
 
   -- counters of two bits: bit q of 32 of them stands at every second place from place q on
   pub double-planes : first % 8 ≡ 0 → (x y low high : ℕ) → x ≡ number 256 bs / 2 ^ (8 * (first / 4)) % 2 ^ 64 → y ≡ number 256 bs / 2 ^ (8 * (first / 4 + 8)) % 2 ^ 64
-      → FromEven x y low → FromEven (x / 2 ^ 1) (y / 2 ^ 1) high → AreBits 64 (λ i. counter 2 bs (first + i)) (record { low = low; high = high; top = 0 })
+      → FromEven x y low → FromEven (x / 2 ^ 1) (y / 2 ^ 1) high → AreBits 64 (λ i. counter 2 bs (first + i)) (record { low = low; high = high })
   double-planes h x y low high ex ey p q = record {
     lower = p (λ i. has (counter 2 bs (first + i)) 0) (λ i l. low-place (first / 4) x ex i (first + i) l (omega arith)) (λ i l. low-place (first / 4 + 8) y ey i (first + (32 + i)) l (omega arith));
     higher = q (λ i. has (counter 2 bs (first + i)) 1) (λ i l. high-place (first / 4) x ex i (first + i) l (omega arith)) (λ i l. high-place (first / 4 + 8) y ey i (first + (32 + i)) l (omega arith));
-    highest = no-plane 2 first 2 bs (lit≤ tt);
   }
     where
       low-place : (p x : ℕ) → x ≡ number 256 bs / 2 ^ (8 * p) % 2 ^ 64 → (i u : ℕ) → i < 32 → 4 * p + i ≡ u → has x (2 * i) ≡ has (counter 2 bs u) 0
@@ -135,55 +133,6 @@ module _ (first : ℕ) (bs : List ℕ) where
 
       high-place : (p x : ℕ) → x ≡ number 256 bs / 2 ^ (8 * p) % 2 ^ 64 → (i u : ℕ) → i < 32 → 4 * p + i ≡ u → has (x / 2 ^ 1) (2 * i) ≡ has (counter 2 bs u) 1
       high-place p x e i u l s = moved-place 2 (8 * p) 64 x bs (from-byte p x bs e) 1 i u (lit< tt) (omega arith) (omega arith)
-
--- ---- planes of counters of three bits
-
--- 16 bits and 16 bits, side by side
-pub thirds-joined : (x y a b : ℕ) → a ≡ word 16 (λ i. has x (3 * i)) → b ≡ word 16 (λ i. has y (3 * i)) → (f : ℕ → Bool) → FromThirds x f → FromThirds y (λ i. f (16 + i))
-    → bitOr (b * 2 ^ 16 % 2 ^ 64) a ≡ word 32 f
-thirds-joined x y a b ea eb f p q = joined-short 16 16 a b f (lit≤ tt) (ea ∙ word-ext 16 _ f p) (eb ∙ word-ext 16 _ _ q)
-
--- what two of them say
-abbrev FromTwo : ℕ → ℕ → ℕ → Type 0
-FromTwo x y r = (f : ℕ → Bool) → FromThirds x f → FromThirds y (λ i. f (16 + i)) → r ≡ word 32 f
-
-pub third-plane-is : (a b c d x y : ℕ) → FromTwo a b x → FromTwo c d y → FromFour a b c d (bitOr (y * 2 ^ 32 % 2 ^ 64) x)
-third-plane-is a b c d x y p q f ha hb hc hd =
-    joined 32 32 x y f (lit< tt) (lit≤ tt) (p f ha hb) (q (λ i. f (32 + i)) hc (λ i l. let e : 48 + i ≡ 32 + (16 + i) = omega arith in hd i l ∙ ap f e))
-
--- bit k of 16 counters, in a word that has their bits from bit p on, moved k places down
-group : (p x : ℕ) (bs : List ℕ) → Bits p 48 bs x → (k y : ℕ) → k < 3 → ((j : ℕ) → has y j ≡ has x (k + j)) → (g : ℕ → ℕ) → ((i : ℕ) → p + 3 * i ≡ 3 * g i)
-    → FromThirds y (λ i. has (counter 3 bs (g i)) k)
-group p x bs b k y h e g s i l = e (3 * i) ∙ at-place 3 p 48 x bs b k i (g i) h (omega arith) (s i)
-
--- four words that have the bits of 16 counters each; the last is loaded two bytes early
-module _ (t q : ℕ) (bs : List ℕ) (h : 8 * q ≡ 3 * t) (a b c d : ℕ) (ea : a ≡ number 256 bs / 2 ^ (8 * q) % 2 ^ 64) (eb : b ≡ number 256 bs / 2 ^ (8 * (q + 6)) % 2 ^ 64)
-    (ec : c ≡ number 256 bs / 2 ^ (8 * (q + 12)) % 2 ^ 64) (ed : d ≡ number 256 bs / 2 ^ (8 * (q + 16)) % 2 ^ 64) where
-  loaded-group : (p x : ℕ) → x ≡ number 256 bs / 2 ^ (8 * p) % 2 ^ 64 → Bits (8 * p) 48 bs x
-  loaded-group p x e j l = from-byte p x bs e j (omega arith)
-
-  last-group : Bits (8 * (q + 16) + 16) 48 bs (d / 2 ^ 16)
-  last-group j l = let e : 8 * (q + 16) + (16 + j) ≡ 8 * (q + 16) + 16 + j = omega arith in has-shr d 16 j ∙ from-byte (q + 16) d bs ed (16 + j) (omega arith) ∙ ap (has (number 256 bs)) e
-
-  triple-plane : (k u v w x r : ℕ) → k < 3 → ((j : ℕ) → has u j ≡ has a (k + j)) → ((j : ℕ) → has v j ≡ has b (k + j)) → ((j : ℕ) → has w j ≡ has c (k + j))
-      → ((j : ℕ) → has x j ≡ has (d / 2 ^ 16) (k + j)) → FromFour u v w x r → r ≡ word 64 (λ i. has (counter 3 bs (t + i)) k)
-  triple-plane k u v w x r l eu ev ew ex p =
-      p (λ i. has (counter 3 bs (t + i)) k)
-      (group (8 * q) a bs (loaded-group q a ea) k u l eu (λ i. t + i) (λ i. omega arith))
-      (group (8 * (q + 6)) b bs (loaded-group (q + 6) b eb) k v l ev (λ i. t + (16 + i)) (λ i. omega arith))
-      (group (8 * (q + 12)) c bs (loaded-group (q + 12) c ec) k w l ew (λ i. t + (32 + i)) (λ i. omega arith))
-      (group (8 * (q + 16) + 16) (d / 2 ^ 16) bs last-group k x l ex (λ i. t + (48 + i)) (λ i. omega arith))
-
-  unmoved : (x j : ℕ) → has x j ≡ has x (0 + j)
-  unmoved x j = ap (has x) (omega arith)
-
-  pub triple-planes : (low high top : ℕ) → FromFour a b c (d / 2 ^ 16) low → FromFour (a / 2 ^ 1) (b / 2 ^ 1) (c / 2 ^ 1) (d / 2 ^ 16 / 2 ^ 1) high
-      → FromFour (a / 2 ^ 2) (b / 2 ^ 2) (c / 2 ^ 2) (d / 2 ^ 16 / 2 ^ 2) top → AreBits 64 (λ i. counter 3 bs (t + i)) (record { low = low; high = high; top = top })
-  triple-planes low high top p0 p1 p2 = record {
-    lower = triple-plane 0 a b c (d / 2 ^ 16) low (lit< tt) (unmoved a) (unmoved b) (unmoved c) (unmoved (d / 2 ^ 16)) p0;
-    higher = triple-plane 1 _ _ _ _ high (lit< tt) (has-shr a 1) (has-shr b 1) (has-shr c 1) (has-shr (d / 2 ^ 16) 1) p1;
-    highest = triple-plane 2 _ _ _ _ top (lit< tt) (has-shr a 2) (has-shr b 2) (has-shr c 2) (has-shr (d / 2 ^ 16) 2) p2;
-  }
 
 -- ---- bits out of two words
 
@@ -221,14 +170,68 @@ module _ (n first second at : ℕ) (f : ℕ → Bool) (few : n ≤ 64) (e : firs
       ap₂ _||_ (has-shr first at i ∙ ap (λ y. has y (at + i)) e ∙ has-high 64 (word 64 f) (at + i) (word-lt 64 f) q) (twice-high second at i near z q ∙ in-second (at + i - 64) (omega arith) ∙ ap f there))
       (lt-or-le (at + i) 64))
 
+-- ---- sets of counters of two bits
+
+-- the number of two bits
+abbrev two : Bool → Bool → ℕ
+two a b = num a + 2 * num b
+
+two-bits : (x : ℕ) → x < 4 → two (has x 0) (has x 1) ≡ x
+unfolding has
+two-bits zero h = refl
+two-bits (suc zero) h = refl
+two-bits (suc (suc zero)) h = refl
+two-bits (suc (suc (suc zero))) h = refl
+two-bits (suc (suc (suc (suc x)))) h = absurd (omega arith)
+
+-- which numbers below 8 it is above
+record Above (a b : Bool) : Type 0 where
+  s0 : a || b ≡ ltb 0 (two a b)
+  s1 : b ≡ ltb 1 (two a b)
+  s2 : a && b ≡ ltb 2 (two a b)
+  more : (s : ℕ) → 3 ≤ s → false ≡ ltb s (two a b)
+
+above-two : (a b : Bool) → Above a b
+above-two true true = record { s0 = refl; s1 = refl; s2 = refl; more = λ s h. sym (le-ltb s 3 h) }
+above-two true false = record { s0 = refl; s1 = refl; s2 = refl; more = λ s h. sym (le-ltb s 1 (omega arith)) }
+above-two false true = record { s0 = refl; s1 = refl; s2 = refl; more = λ s h. sym (le-ltb s 2 (omega arith)) }
+above-two false false = record { s0 = refl; s1 = refl; s2 = refl; more = λ s h. sym (le-ltb s 0 (omega arith)) }
+
+module _ (a b n : ℕ) (ha : a < 2 ^ n) (hb : b < 2 ^ n) where
+  abbrev over : ℕ → ℕ → Bool
+  over s i = ltb s (two (has a i) (has b i))
+
+  empty : (s : ℕ) → 3 ≤ s → 0 ≡ word n (over s)
+  empty s h = is-word n 0 (over s) (pow-pos n) (λ i _. has-zero i ∙ above-two (has a i) (has b i) .more s h)
+
+  pub thresholds-are : _≡_ {A = List ℕ} (bitOr a b ∷ (b ∷ (bitAnd a b ∷ (0 ∷ (0 ∷ (0 ∷ (0 ∷ (0 ∷ [])))))))) (words 8 n over)
+  unfolding words list
+  thresholds-are =
+      let e0 = is-word n (bitOr a b) (over 0) (or-lt n a b ha hb) (λ i _. has-or a b i ∙ above-two (has a i) (has b i) .s0) in
+      let e1 = is-word n b (over 1) hb (λ i _. above-two (has a i) (has b i) .s1) in
+      let e2 = is-word n (bitAnd a b) (over 2) (and-lt n a b ha hb) (λ i _. has-and a b i ∙ above-two (has a i) (has b i) .s2) in
+      λ t. e0 t ∷ (e1 t ∷ (e2 t ∷ (empty 3 (lit≤ tt) t ∷ (empty 4 (lit≤ tt) t ∷ (empty 5 (lit≤ tt) t ∷ (empty 6 (lit≤ tt) t ∷ (empty 7 (lit≤ tt) t ∷ [])))))))
+
+-- the sets of n counters f, by the words of their bits
+sets-by-bits : (n : ℕ) (f : ℕ → ℕ) → ((i : ℕ) → f i < 4) → words 8 n (over (word n (λ i. has (f i) 0)) (word n (λ i. has (f i) 1)) n (word-lt n _) (word-lt n _)) ≡ setsOf n f
+unfolding setsOf
+sets-by-bits n f h =
+    words-ext 8 n _ _ (λ s i _ l. ap (ltb s) (ap₂ two (has-word n (λ i. has (f i) 0) i l) (has-word n (λ i. has (f i) 1) i l) ∙ two-bits (f i) (h i)))
+
+-- so whatever words of thresholds are made of their planes are these sets
+pub sets-by-planes : (n : ℕ) (f : ℕ → ℕ) → ((i : ℕ) → f i < 4) → (low high : ℕ) → low ≡ word n (λ i. has (f i) 0) → high ≡ word n (λ i. has (f i) 1)
+    → (r : List ℕ) → ((m : ℕ) → low < 2 ^ m → high < 2 ^ m → r ≡ words 8 m (λ s i. ltb s (two (has low i) (has high i)))) → r ≡ setsOf n f
+sets-by-planes n f few low high el eh r e = e n (rw el (word-lt n _)) (rw eh (word-lt n _)) ∙ rw (el, eh) (sets-by-bits n f few)
+
 -- ---- planes of other counters
 
--- the planes of n counters are those of more, of which the others are 0
+-- a plane of n counters is that of more, of which the others are 0
+pub plane-as : (n m : ℕ) (f g : ℕ → ℕ) (q : ℕ) → n ≤ m → ((i : ℕ) → i < n → g i ≡ f i) → ((i : ℕ) → n ≤ i → i < m → g i ≡ 0) → word n (λ i. has (f i) q) ≡ word m (λ i. has (g i) q)
+plane-as n m f g q l e z =
+    sym (word-narrow n m (λ i. has (g i) q) (λ i. has (f i) q) l (λ i h. ap (λ x. has x q) (e i h)) (λ i h k. ap (λ x. has x q) (z i h k) ∙ has-zero q))
+
 pub bits-as : (n m : ℕ) (f g : ℕ → ℕ) (p : Planes) → n ≤ m → ((i : ℕ) → i < n → g i ≡ f i) → ((i : ℕ) → n ≤ i → i < m → g i ≡ 0) → AreBits n f p → AreBits m g p
-bits-as n m f g p l e z b = record { lower = b .lower ∙ same 0; higher = b .higher ∙ same 1; highest = b .highest ∙ same 2 }
-  where
-    same : (q : ℕ) → word n (λ i. has (f i) q) ≡ word m (λ i. has (g i) q)
-    same q = sym (word-narrow n m (λ i. has (g i) q) (λ i. has (f i) q) l (λ i h. ap (λ x. has x q) (e i h)) (λ i h k. ap (λ x. has x q) (z i h k) ∙ has-zero q))
+bits-as n m f g p l e z b = record { lower = b .lower ∙ plane-as n m f g 0 l e z; higher = b .higher ∙ plane-as n m f g 1 l e z }
 
 -- equal counters have equal planes
 pub bits-ext : (n : ℕ) (f g : ℕ → ℕ) (p : Planes) → ((i : ℕ) → i < n → g i ≡ f i) → AreBits n f p → AreBits n g p

@@ -9,7 +9,7 @@ use native.Mathlib.Omega.{arith}
 use borrow.Author.Tests.{leb-true, ltb-true, eqb-true, eq-eqb, le-leb, lt-leb, lt-ltb, le-ltb, ltb-false}
 use lib.Dec.{eqb, leb, ltb}
 use lib.ListN.{length, getD, replicate}
-use lib.Pow.{pow-pos}
+use lib.Pow.{pow-pos, pow-mono}
 use Rattle.bits.specs.Bits.{has, number, Below}
 use Rattle.bits.proofs.TestLaws.{clash, and-in, and-left, and-right, lt-or-le}
 use Rattle.bits.proofs.BoundLaws.{some-none, none-below, sum-num-le}
@@ -73,6 +73,11 @@ not-roomy k m n bs h = record { number = rw h; names = λ e. absurd (omega arith
 pub counter-few : (k : ℕ) (bs : List ℕ) (t : ℕ) → counter (width k) bs t < 8
 unfolding counter
 counter-few k bs t = lt-of-lt-of-le (mod-lt _ (pow-pos (width k))) (bits-few k)
+
+-- one of at most two bits
+pub counter-narrow : (k : ℕ) (bs : List ℕ) → width k ≤ 2 → (t : ℕ) → counter (width k) bs t < 4
+unfolding counter
+counter-narrow k bs h t = lt-of-lt-of-le (mod-lt _ (pow-pos (width k))) (pow-mono {j = 2} h)
 
 -- a counter above k is a line in the sets numbered k
 above-sets : (k m n : ℕ) (bs : List ℕ) → (ltb k 8 && someLine (setsOf m (rowCounter (width k) bs)) (setsOf n (columnCounter (width k) m bs)) k) ≡ above k (m + n) bs

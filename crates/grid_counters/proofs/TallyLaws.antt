@@ -28,7 +28,7 @@ bit-sum true false x e = rw e
 bit-sum false true x e = rw e
 bit-sum false false x e = rw e
 
--- the three lowest bits of a number to which a bit is added
+-- the lowest bits of a number to which a bit is added
 module _ (x : ℕ) where
   low-bit : num (has x 0) ≡ x % 2
   unfolding has
@@ -44,57 +44,36 @@ module _ (x : ℕ) where
   half-added false = omega (arith, ap num (and-false (has x 0)))
 
   -- and the higher bits are the half's
-  added-next : (b : Bool) (q : ℕ) → has (num b + x) (1 + q) ≡ has (num (has x 0 && b) + x / 2) q
+  pub added-next : (b : Bool) (q : ℕ) → has (num b + x) (1 + q) ≡ has (num (has x 0 && b) + x / 2) q
   added-next b q = sym (has-shr (num b + x) 1 q) ∙ ap (λ y. has y q) (half-added b)
 
-added-high : (x : ℕ) (b : Bool) → has (num b + x) 1 ≡ xor (has x 1) (has x 0 && b)
+pub added-high : (x : ℕ) (b : Bool) → has (num b + x) 1 ≡ xor (has x 1) (has x 0 && b)
 added-high x b = added-next x b 0 ∙ added-low (x / 2) (has x 0 && b) ∙ ap (λ t. xor t (has x 0 && b)) (has-shr x 1 0)
 
-added-top : (x : ℕ) (b : Bool) → has (num b + x) 2 ≡ xor (has x 2) (has x 1 && (has x 0 && b))
-added-top x b = added-next x b 1 ∙ added-high (x / 2) (has x 0 && b) ∙ ap₂ (λ t u. xor t (u && (has x 0 && b))) (has-shr x 1 1) (has-shr x 1 0)
-
--- a bit of a plane
-plane-bit : (q x : ℕ) (f : ℕ → ℕ) → x ≡ word 64 (λ i. has (f i) q) → (i : ℕ) → i < 64 → has x i ≡ has (f i) q
+-- a bit of a plane, and how large it is
+pub plane-bit : (q x : ℕ) (f : ℕ → ℕ) → x ≡ word 64 (λ i. has (f i) q) → (i : ℕ) → i < 64 → has x i ≡ has (f i) q
 plane-bit q x f e i l = ap (λ y. has y i) e ∙ has-word 64 (λ i. has (f i) q) i l
 
+pub few-plane : (q x : ℕ) (f : ℕ → ℕ) → x ≡ word 64 (λ i. has (f i) q) → x < 2 ^ 64
+few-plane q x f e = rw e (word-lt 64 _)
+
 module _ (f : ℕ → ℕ) (p : Planes) (s : ℕ) (b : AreBits 64 f p) (h : s < 2 ^ 64) where
-  few-low : p .low < 2 ^ 64
-  few-low = rw (b .lower) (word-lt 64 _)
-
-  few-high : p .high < 2 ^ 64
-  few-high = rw (b .higher) (word-lt 64 _)
-
-  -- what is carried to bit 1, and to bit 2
-  abbrev twos : ℕ
-  twos = bitAnd (p .low) s
-
-  abbrev fours : ℕ
-  fours = bitAnd (p .high) twos
-
-  few-twos : twos < 2 ^ 64
-  few-twos = and-lt 64 (p .low) s few-low h
-
-  has-twos : (i : ℕ) → i < 64 → has twos i ≡ has (f i) 0 && has s i
-  has-twos i l = has-and (p .low) s i ∙ ap (λ t. t && has s i) (plane-bit 0 (p .low) f (b .lower) i l)
-
-  has-fours : (i : ℕ) → i < 64 → has fours i ≡ has (f i) 1 && (has (f i) 0 && has s i)
-  has-fours i l = has-and (p .high) twos i ∙ ap₂ _&&_ (plane-bit 1 (p .high) f (b .higher) i l) (has-twos i l)
-
-  pub one-more : AreBits 64 (λ i. num (has s i) + f i) (record { low = bitXor (p .low) s; high = bitXor (p .high) twos; top = bitXor (p .top) fours })
-  one-more = record {
-    lower = is-word 64 (bitXor (p .low) s) _ (xor-lt 64 (p .low) s few-low h)
-        (λ i l. has-xor (p .low) s i ∙ ap (λ t. xor t (has s i)) (plane-bit 0 (p .low) f (b .lower) i l) ∙ sym (added-low (f i) (has s i)));
-    higher = is-word 64 (bitXor (p .high) twos) _ (xor-lt 64 (p .high) twos few-high few-twos)
-        (λ i l. has-xor (p .high) twos i ∙ ap₂ xor (plane-bit 1 (p .high) f (b .higher) i l) (has-twos i l) ∙ sym (added-high (f i) (has s i)));
-    highest = is-word 64 (bitXor (p .top) fours) _ (xor-lt 64 (p .top) fours (rw (b .highest) (word-lt 64 _)) (and-lt 64 (p .high) twos few-high few-twos))
-        (λ i l. has-xor (p .top) fours i ∙ ap₂ xor (plane-bit 2 (p .top) f (b .highest) i l) (has-fours i l) ∙ sym (added-top (f i) (has s i)));
-  }
+  pub one-more : AreBits 64 (λ i. num (has s i) + f i) (record { low = bitXor (p .low) s; high = bitXor (p .high) (bitAnd (p .low) s) })
+  one-more =
+      let few = few-plane 0 (p .low) f (b .lower) in
+      record {
+        lower = is-word 64 (bitXor (p .low) s) _ (xor-lt 64 (p .low) s few h)
+            (λ i l. has-xor (p .low) s i ∙ ap (λ t. xor t (has s i)) (plane-bit 0 (p .low) f (b .lower) i l) ∙ sym (added-low (f i) (has s i)));
+        higher = is-word 64 (bitXor (p .high) (bitAnd (p .low) s)) _ (xor-lt 64 (p .high) (bitAnd (p .low) s) (few-plane 1 (p .high) f (b .higher)) (and-lt 64 (p .low) s few h))
+            (λ i l. has-xor (p .high) (bitAnd (p .low) s) i
+            ∙ ap₂ xor (plane-bit 1 (p .high) f (b .higher) i l) (has-and (p .low) s i ∙ ap (λ t. t && has s i) (plane-bit 0 (p .low) f (b .lower) i l)) ∙ sym (added-high (f i) (has s i)));
+      }
 
 -- ---- all of them
 
-pub times-none : (sets : List ℕ) → AreBits 64 (times sets 0) (record { low = 0; high = 0; top = 0 })
+pub times-none : (sets : List ℕ) → AreBits 64 (times sets 0) (record { low = 0; high = 0 })
 unfolding times sum
-times-none sets = record { lower = none 0; higher = none 1; highest = none 2 }
+times-none sets = record { lower = none 0; higher = none 1 }
   where
     none : (q : ℕ) → 0 ≡ word 64 (λ _. has 0 q)
     none q = is-word 64 0 (λ _. has 0 q) (pow-pos 64) (λ i _. has-zero i ∙ sym (has-zero q))
@@ -104,12 +83,12 @@ unfolding times sum
 times-step sets m p b = rw add-one b
 
 -- without the lines past the last
+pub masked-plane : (q n mask x : ℕ) (f : ℕ → ℕ) → n ≤ 64 → mask ≡ word (min n 64) (λ _. true) → x ≡ word 64 (λ i. has (f i) q) → bitAnd mask x ≡ word n (λ i. has (f i) q)
+masked-plane q n mask x f few m e = masked-word n mask x few m (λ i. has (f i) q) (λ i l. plane-bit q x f e i (omega arith))
+
 pub masked-planes : (n mask : ℕ) (f : ℕ → ℕ) (p : Planes) → n ≤ 64 → mask ≡ word (min n 64) (λ _. true) → AreBits 64 f p
-    → AreBits n f (record { low = bitAnd mask (p .low); high = bitAnd mask (p .high); top = bitAnd mask (p .top) })
-masked-planes n mask f p few m b = record { lower = inside 0 (p .low) (b .lower); higher = inside 1 (p .high) (b .higher); highest = inside 2 (p .top) (b .highest) }
-  where
-    inside : (q x : ℕ) → x ≡ word 64 (λ i. has (f i) q) → bitAnd mask x ≡ word n (λ i. has (f i) q)
-    inside q x e = masked-word n mask x few m (λ i. has (f i) q) (λ i l. plane-bit q x f e i (omega arith))
+    → AreBits n f (record { low = bitAnd mask (p .low); high = bitAnd mask (p .high) })
+masked-planes n mask f p few m b = record { lower = masked-plane 0 n mask (p .low) f few m (b .lower); higher = masked-plane 1 n mask (p .high) f few m (b .higher) }
 
 -- ---- the columns' counters after the rows'
 

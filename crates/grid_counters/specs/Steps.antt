@@ -7,13 +7,18 @@ use lib.Dec.{ltb}
 use lib.ListN.{length, getD}
 use Rattle.bits.specs.Bits.{has, word}
 use Rattle.grid_counters.specs.declared.planes.Planes.{Planes}
+use Rattle.grid_counters.specs.declared.threes.Threes.{Threes}
 use Rattle.grid_counters.specs.declared.judge.Judged.{Judged}
 
 -- the planes of n counters f
 pub record AreBits (n : ℕ) (f : ℕ → ℕ) (p : Planes) : Type 0 where
   pub lower : p .low ≡ word n (λ i. has (f i) 0)
   pub higher : p .high ≡ word n (λ i. has (f i) 1)
-  pub highest : p .top ≡ word n (λ i. has (f i) 2)
+
+-- and with their third bits
+pub record AreThrees (n : ℕ) (f : ℕ → ℕ) (p : Threes) : Type 0 where
+  pub bits : AreBits n f (p .planes)
+  pub third : p .top ≡ word n (λ i. has (f i) 2)
 
 -- bit p of counters f of w bits, one after the other
 abbrev pub bitOf : ℕ → (ℕ → ℕ) → ℕ → Bool
@@ -51,12 +56,16 @@ Triples low high top v =
 
 -- 64 counters of three bits, which have these planes, are stored from byte q on, as far as there are bytes: where the bytes before are those of the counters
 -- before, so are these
-abbrev pub StoresThrees : ℕ → Planes → List ℕ → List ℕ → Type 0
-StoresThrees q p before after = (f : ℕ → ℕ) (t : ℕ) → 8 * q ≡ 3 * t → AreBits 64 (λ i. f (t + i)) p → Filled q (bitOf 3 f) before → Filled (q + 24) (bitOf 3 f) after
+abbrev pub StoresThrees : ℕ → Threes → List ℕ → List ℕ → Type 0
+StoresThrees q p before after = (f : ℕ → ℕ) (t : ℕ) → 8 * q ≡ 3 * t → AreThrees 64 (λ i. f (t + i)) p → Filled q (bitOf 3 f) before → Filled (q + 24) (bitOf 3 f) after
 
 -- 128 counters of w bits, which have these planes, are stored as far as there are bytes
 abbrev pub StoresPlanes : ℕ → Planes → Planes → List ℕ → Type 0
 StoresPlanes w first second after = (f : ℕ → ℕ) → AreBits 64 f first → AreBits 64 (λ i. f (64 + i)) second → Filled (16 * w) (bitOf w f) after
+
+-- so are those that have third bits too
+abbrev pub FillsPlanes : ℕ → Threes → Threes → List ℕ → Type 0
+FillsPlanes w first second after = (f : ℕ → ℕ) → AreThrees 64 f first → AreThrees 64 (λ i. f (64 + i)) second → Filled (16 * w) (bitOf w f) after
 
 -- counters are judged: by whether their spare bits are clear, whether one of them is above K, and t, the index of the first that is
 pub record Judges (clear high : Bool) (t : ℕ) (j : Judged) : Type 0 where

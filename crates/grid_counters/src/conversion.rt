@@ -1,27 +1,60 @@
-// What is judged of counters that are converted: they are no sets of lines there, but planes of 64 counters, rows and columns alike.
+// Counters that are converted: planes of 64 of them, rows and columns alike, from bytes and to bytes of any width, and what is judged of them.
+use crate::fill::fill;
 use crate::judge::Judged;
-use crate::planes::Planes;
+use crate::planes::planes_from;
 use crate::planes::thresholds;
+use crate::threes::Threes;
+use crate::threes::fill_threes;
+use crate::threes::raised;
+use crate::threes::threes_from;
 use grid_sets::LEVELS;
 use refusals::ACCEPTED;
 use refusals::BIT_PAST_END;
 use refusals::MALFORMED;
 ghost use mathlib.Core.Path.{_≡_};
-ghost use Prim.Native.Nat.{ℕ, _+_, _<_};
+ghost use Prim.Native.Nat.{ℕ, _+_, _*_, _%_, _≤_, _<_};
 ghost use lib.Dec.{ltb};
 ghost use lib.ListN.{getD};
 ghost use Rattle.bits.specs.Bits.{some, first as firstOf};
+ghost use Rattle.rdis.specs.Packing.{counter};
 ghost use Rattle.grid_sets.specs.Sets.{setsOf};
-ghost use Rattle.grid_counters.specs.Steps.{AreBits, Judges};
+ghost use Rattle.grid_counters.specs.Steps.{AreThrees, Judges, FillsPlanes};
+
+// The planes of the 64 counters from counter `first` on, with 0 past the end.
+pub fn planes_at(bytes: &[u8], width: usize, first: usize) -> Threes
+    requires { ⌜ (0 < width) × (width ≤ 3) × (first % 8 ≡ 0) × (first ≤ 64) ⌝ }
+    ensures { λ r. ⌜ AreThrees 64 (λ i. counter width (now (bytes .entry)) (first + i)) r ⌝ }
+{
+    if width == 3 {
+        return threes_from(bytes, first / 8 * 3);
+    }
+    Threes {
+        planes: planes_from(bytes, width, first),
+        top: 0,
+    }
+}
+
+// Stores 128 counters, which have these planes, as far as there are bytes.
+pub fn fill_at(out: &mut [u8], width: usize, a: Threes, b: Threes)
+    requires { ⌜ (0 < width) × (width ≤ 3) ⌝ }
+    ensures { λ _. ⌜ FillsPlanes width a b (now (out .exit)) ⌝ }
+{
+    if width == 3 {
+        fill_threes(out, a, b);
+        return;
+    }
+    fill(out, width, a.planes, b.planes);
+}
 
 // Which of 64 counters are above K.
-pub fn above(p: Planes, k: usize) -> u64
-    ensures { λ r. ⌜ ((f : ℕ → ℕ) → ((t : ℕ) → f t < 8) → AreBits 64 f p → r ≡ getD (setsOf 64 f) k 0) ⌝ }
+pub fn above(p: Threes, k: usize) -> u64
+    ensures { λ r. ⌜ ((f : ℕ → ℕ) → ((t : ℕ) → f t < 8) → AreThrees 64 f p → r ≡ getD (setsOf 64 f) k 0) ⌝ }
 {
     if k >= LEVELS {
         return 0;
     }
-    let sets = thresholds(p.low, p.high, p.top);
+    let low = thresholds(p.planes.low, p.planes.high);
+    let sets = raised(&low, p.top);
     sets[k]
 }
 

@@ -5,12 +5,18 @@ mod judge;
 mod packing;
 mod planes;
 mod tally;
+mod threes;
 
 use grid_sets::LEVELS;
 use grid_sets::LINES;
 use refusals::ACCEPTED;
 use refusals::WRONG_LENGTH;
 ghost use mathlib.Core.Path.{_≡_};
+ghost use mathlib.Core.Bool.{true};
+ghost use Prim.Native.Nat.{_+_, _≤_, _<_};
+ghost use lib.ListN.{length};
+ghost use Rattle.rdis.specs.Packing.{width as widthOf, bytesFor, inOrder, packed};
+ghost use Rattle.grid_sets.specs.Sets.{times};
 ghost use Rattle.grid_counters.specs.Promises.{fit, roomy as isRoomy, packable as isPackable, Unpack, Pack, Convert};
 
 // A block has at most so many counters: one for each of 64 rows and 64 columns.
@@ -58,11 +64,33 @@ pub fn unpack(k: usize, rows: usize, columns: usize, bytes: &[u8]) -> Counters
         };
     }
     let width = packing::width(k);
+    if width == 3 {
+        return unpack_threes(k, rows, columns, bytes);
+    }
     let first = planes::planes_from(bytes, width, 0);
     let second = planes::planes_from(bytes, width, 64);
     let r = planes::sets(first, second, 0, rows);
     let c = planes::sets(first, second, rows, columns);
     let clear = packing::spare_clear(bytes, width, rows + columns);
+    let j = judge::judge(clear, &r, &c, k, rows);
+    Counters {
+        number: j.number,
+        index: j.index,
+        rows: r,
+        columns: c,
+    }
+}
+
+// Those of three bits. Apart from the others: most blocks have narrow counters, and these need no third word.
+fn unpack_threes(k: usize, rows: usize, columns: usize, bytes: &[u8]) -> Counters
+    requires { ⌜ (isRoomy k rows columns (length (now bytes)) ≡ true) × (widthOf k ≡ 3) ⌝ }
+    ensures { λ r. ⌜ Unpack k rows columns (now (bytes .entry)) r ⌝ }
+{
+    let first = threes::threes_from(bytes, 0);
+    let second = threes::threes_from(bytes, 24);
+    let r = threes::sets_of_threes(first, second, 0, rows);
+    let c = threes::sets_of_threes(first, second, rows, columns);
+    let clear = packing::spare_clear(bytes, 3, rows + columns);
     let j = judge::judge(clear, &r, &c, k, rows);
     Counters {
         number: j.number,
@@ -91,16 +119,38 @@ pub fn pack(
 )
     ensures { λ _. ⌜ Pack k rows columns used rowsets columnsets (now (out .entry)) (now (out .exit)) ⌝ }
 {
-    if packable(k, rows, columns, used, out.len()) {
-        let r = tally::tally(&rowsets, used, rows);
-        let c = tally::tally(&columnsets, used, columns);
-        fill::fill(
-            out,
-            packing::width(k),
-            tally::first(r, c, rows),
-            tally::second(c, rows),
-        );
+    if !packable(k, rows, columns, used, out.len()) {
+        return;
     }
+    let width = packing::width(k);
+    if width == 3 {
+        pack_threes(rows, columns, used, &rowsets, &columnsets, out);
+        return;
+    }
+    let r = tally::tally(&rowsets, used, rows);
+    let c = tally::tally(&columnsets, used, columns);
+    fill::fill(out, width, tally::first(r, c, rows), tally::second(c, rows));
+}
+
+// Those of three bits.
+fn pack_threes(
+    rows: usize,
+    columns: usize,
+    used: usize,
+    rowsets: &[u64; LEVELS],
+    columnsets: &[u64; LEVELS],
+    out: &mut [u8],
+)
+    requires { ⌜ (used < 8) × (rows ≤ 64) × (columns ≤ 64) × (length (now out) ≡ bytesFor 3 (rows + columns)) ⌝ }
+    ensures { λ _. ⌜ now (out .exit) ≡ packed 3 (inOrder rows columns (times (now (rowsets .entry)) used) (times (now (columnsets .entry)) used)) ⌝ }
+{
+    let r = threes::tally_threes(rowsets, used, rows);
+    let c = threes::tally_threes(columnsets, used, columns);
+    threes::fill_threes(
+        out,
+        threes::first_threes(r, c, rows),
+        threes::second_threes(c, rows),
+    );
 }
 
 // What a conversion answers: 0 or the number of the refusal, and with refusal 4 the index of the first counter above K.
@@ -127,8 +177,8 @@ pub fn convert(
         };
     }
     let width = packing::width(k);
-    let first = planes::planes_from(bytes, width, 0);
-    let second = planes::planes_from(bytes, width, 64);
+    let first = conversion::planes_at(bytes, width, 0);
+    let second = conversion::planes_at(bytes, width, 64);
     let clear = packing::spare_clear(bytes, width, rows + columns);
     let j = conversion::judge_planes(
         clear,
@@ -136,7 +186,7 @@ pub fn convert(
         conversion::above(second, k),
     );
     if j.number == ACCEPTED {
-        fill::fill(out, packing::width(to), first, second);
+        conversion::fill_at(out, packing::width(to), first, second);
     }
     Converted {
         number: j.number,

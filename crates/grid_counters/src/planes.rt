@@ -8,13 +8,12 @@ ghost use lib.ListN.{length, take, drop};
 ghost use Rattle.bits.specs.Bits.{num, has, word, words, number};
 ghost use Rattle.rdis.specs.Packing.{counter};
 ghost use Rattle.grid_sets.specs.Sets.{setsOf};
-ghost use Rattle.grid_counters.specs.Steps.{AreBits, FromThirds, FromFour};
+ghost use Rattle.grid_counters.specs.Steps.{AreBits};
 
-// Bit 0, bit 1 and bit 2 of 64 counters.
+// Bit 0 and bit 1 of 64 counters.
 pub struct Planes {
     pub low: u64,
     pub high: u64,
-    pub top: u64,
 }
 
 // A byte, moved up.
@@ -40,7 +39,7 @@ fn join(bytes: &[u8], q: usize, n: usize) -> u64
 }
 
 // The 64 bits from byte `q` on, with 0 past the end. Eight bytes are joined by themselves: the compiler then makes one load of them.
-fn load(bytes: &[u8], q: usize) -> u64
+pub fn load(bytes: &[u8], q: usize) -> u64
     requires { ⌜ q ≤ 64 ⌝ }
     ensures { λ r. ⌜ r ≡ number 256 (now (bytes .entry)) / 2 ^ (8 * q) % 2 ^ 64 ⌝ }
 {
@@ -77,76 +76,27 @@ fn plane(first: u64, second: u64) -> u64
     (seconds(second) << 32) | seconds(first)
 }
 
-// The 16 bits at every third place of 48, side by side. In a block with few faults most of them are 0.
-fn thirds(v: u64) -> u64
-    ensures { λ r. ⌜ r ≡ word 16 (λ i. has v (3 * i)) ⌝ }
-{
-    let a = 0x2492_4924_9249 & v;
-    if a == 0 {
-        return 0;
-    }
-    let b = 0x0c30_c30c_30c3 & (a | (a >> 2));
-    let c = 0x00f0_0f00_f00f & (b | (b >> 4));
-    let d = 0x0000_ff00_00ff & (c | (c >> 8));
-    0xffff & (d | (d >> 16))
-}
-
-// Those of two words.
-fn thirds_of_two(first: u64, second: u64) -> u64
-    ensures { λ r. ⌜ ((f : ℕ → Bool) → FromThirds first f → FromThirds second (λ i. f (16 + i)) → r ≡ word 32 f) ⌝ }
-{
-    (thirds(second) << 16) | thirds(first)
-}
-
-// One bit of 64 counters of three bits, which stands at every third place of four words, from the first place on.
-fn third_plane(a: u64, b: u64, c: u64, d: u64) -> u64
-    ensures { λ r. ⌜ FromFour a b c d r ⌝ }
-{
-    (thirds_of_two(c, d) << 32) | thirds_of_two(a, b)
-}
-
-// The planes of 64 counters of three bits, which stand in the 24 bytes from byte `q` on: 16 counters are 6 bytes, and no load reaches past the last of them.
-fn planes_of_threes(bytes: &[u8], q: usize) -> Planes
-    requires { ⌜ (q ≤ 24) × (q % 3 ≡ 0) ⌝ }
-    ensures { λ r. ⌜ ((t : ℕ) → 8 * q ≡ 3 * t → AreBits 64 (λ i. counter 3 (now (bytes .entry)) (t + i)) r) ⌝ }
-{
-    let a = load(bytes, q);
-    let b = load(bytes, q + 6);
-    let c = load(bytes, q + 12);
-    let d = load(bytes, q + 16) >> 16;
-    Planes {
-        low: third_plane(a, b, c, d),
-        high: third_plane(a >> 1, b >> 1, c >> 1, d >> 1),
-        top: third_plane(a >> 2, b >> 2, c >> 2, d >> 2),
-    }
-}
-
 // The planes of the 64 counters from counter `first` on, with 0 past the end.
 pub fn planes_from(bytes: &[u8], width: usize, first: usize) -> Planes
-    requires { ⌜ (0 < width) × (width ≤ 3) × (first % 8 ≡ 0) × (first ≤ 64) ⌝ }
+    requires { ⌜ (0 < width) × (width ≤ 2) × (first % 8 ≡ 0) × (first ≤ 64) ⌝ }
     ensures { λ r. ⌜ AreBits 64 (λ i. counter width (now (bytes .entry)) (first + i)) r ⌝ }
 {
     if width == 1 {
         return Planes {
             low: load(bytes, first / 8),
             high: 0,
-            top: 0,
         };
-    }
-    if width == 3 {
-        return planes_of_threes(bytes, first / 8 * 3);
     }
     let a = load(bytes, first / 4);
     let b = load(bytes, first / 4 + 8);
     Planes {
         low: plane(a, b),
         high: plane(a >> 1, b >> 1),
-        top: 0,
     }
 }
 
 // The `n` bits from bit `at` on of two words, the second after the first.
-fn cut(first: u64, second: u64, at: usize, n: usize) -> u64
+pub fn cut(first: u64, second: u64, at: usize, n: usize) -> u64
     requires { ⌜ at ≤ 64 ⌝ }
     ensures { λ r. ⌜ ((f : ℕ → Bool) → n ≤ 64 → first ≡ word 64 f → second ≡ word 64 (λ i. f (64 + i)) → r ≡ word n (λ i. f (at + i))) ⌝ }
 {
@@ -157,40 +107,20 @@ fn cut(first: u64, second: u64, at: usize, n: usize) -> u64
     inside & ((first >> at) | ((second << 1) << (63 - at)))
 }
 
-// The sets of counters of three bits, by the words of these.
-pub fn thresholds(low: u64, high: u64, top: u64) -> [u64; LEVELS]
-    ensures { λ r. ⌜ ((n : ℕ) → low < 2 ^ n → high < 2 ^ n → top < 2 ^ n → r ≡ words 8 n (λ s i. ltb s (num (has low i) + 2 * num (has high i) + 4 * num (has top i)))) ⌝ }
-{
-    let one = low | high;
-    let both = low & high;
-    [
-        one | top,
-        high | top,
-        both | top,
-        top,
-        one & top,
-        high & top,
-        both & top,
-        0,
-    ]
-}
-
-// The sets of counters of which none is above 3, by the words of their bits.
-fn low_thresholds(low: u64, high: u64) -> [u64; LEVELS]
-    ensures { λ r. ⌜ ((n : ℕ) → low < 2 ^ n → high < 2 ^ n → 0 < 2 ^ n → r ≡ words 8 n (λ s i. ltb s (num (has low i) + 2 * num (has high i) + 4 * num (has 0 i)))) ⌝ }
+// The sets of counters of two bits, by their lower bits and their higher bits.
+pub fn thresholds(low: u64, high: u64) -> [u64; LEVELS]
+    ensures { λ r. ⌜ ((n : ℕ) → low < 2 ^ n → high < 2 ^ n → r ≡ words 8 n (λ s i. ltb s (num (has low i) + 2 * num (has high i)))) ⌝ }
 {
     [low | high, high, low & high, 0, 0, 0, 0, 0]
 }
 
-// The sets of the `n` counters from counter `at` on, of 128 whose planes these are. Up to K = 3 none is above 3, and beyond most blocks have none.
+// The sets of the `n` counters from counter `at` on, of 128 whose planes these are.
 pub fn sets(first: Planes, second: Planes, at: usize, n: usize) -> [u64; LEVELS]
     requires { ⌜ (at ≤ 64) × (n ≤ 64) ⌝ }
-    ensures { λ r. ⌜ ((f : ℕ → ℕ) → ((t : ℕ) → f t < 8) → AreBits 64 f first → AreBits 64 (λ i. f (64 + i)) second → r ≡ setsOf n (λ i. f (at + i))) ⌝ }
+    ensures { λ r. ⌜ ((f : ℕ → ℕ) → ((t : ℕ) → f t < 4) → AreBits 64 f first → AreBits 64 (λ i. f (64 + i)) second → r ≡ setsOf n (λ i. f (at + i))) ⌝ }
 {
-    let low = cut(first.low, second.low, at, n);
-    let high = cut(first.high, second.high, at, n);
-    if (first.top | second.top) == 0 {
-        return low_thresholds(low, high);
-    }
-    thresholds(low, high, cut(first.top, second.top, at, n))
+    thresholds(
+        cut(first.low, second.low, at, n),
+        cut(first.high, second.high, at, n),
+    )
 }

@@ -9,14 +9,12 @@ ghost use Rattle.grid_sets.specs.Sets.{times};
 ghost use Rattle.grid_counters.specs.Steps.{AreBits};
 
 // Counts one set more: adds 1 to the counters of its lines.
-fn with_set(p: Planes, s: u64) -> Planes
+pub fn with_set(p: Planes, s: u64) -> Planes
     ensures { λ r. ⌜ ((f : ℕ → ℕ) → AreBits 64 f p → AreBits 64 (λ i. num (has s i) + f i) r) ⌝ }
 {
-    let twos = p.low & s;
     Planes {
         low: p.low ^ s,
-        high: p.high ^ twos,
-        top: p.top ^ (p.high & twos),
+        high: p.high ^ (p.low & s),
     }
 }
 
@@ -26,11 +24,7 @@ pub fn tally(sets: &[u64; LEVELS], used: usize, n: usize) -> Planes
     ensures { λ r. ⌜ AreBits n (times (now (sets .entry)) used) r ⌝ }
 {
     let inside = words::low_bits(n);
-    let mut p = Planes {
-        low: 0,
-        high: 0,
-        top: 0,
-    };
+    let mut p = Planes { low: 0, high: 0 };
     let mut m = 0;
     while m < used {
         p = with_set(p, sets[m]);
@@ -39,12 +33,11 @@ pub fn tally(sets: &[u64; LEVELS], used: usize, n: usize) -> Planes
     Planes {
         low: inside & p.low,
         high: inside & p.high,
-        top: inside & p.top,
     }
 }
 
 // The first 64 bits of two words side by side, the second after the `at` bits of the first.
-fn front(a: u64, b: u64, at: usize) -> u64
+pub fn front(a: u64, b: u64, at: usize) -> u64
     requires { ⌜ at ≤ 64 ⌝ }
     ensures { λ r. ⌜ ((f : ℕ → Bool) → a ≡ word at f → b ≡ word 64 (λ i. f (at + i)) → r ≡ word 64 f) ⌝ }
 {
@@ -55,7 +48,7 @@ fn front(a: u64, b: u64, at: usize) -> u64
 }
 
 // The bits after those: the last `at` bits of the second word, and then 0.
-fn back(b: u64, at: usize) -> u64
+pub fn back(b: u64, at: usize) -> u64
     requires { ⌜ at ≤ 64 ⌝ }
     ensures { λ r. ⌜ ((f : ℕ → Bool) → b ≡ word 64 (λ i. f (at + i)) → ((t : ℕ) → at + 64 ≤ t → f t ≡ false) → r ≡ word 64 (λ i. f (64 + i))) ⌝ }
 {
@@ -73,7 +66,6 @@ pub fn first(rows: Planes, columns: Planes, at: usize) -> Planes
     Planes {
         low: front(rows.low, columns.low, at),
         high: front(rows.high, columns.high, at),
-        top: front(rows.top, columns.top, at),
     }
 }
 
@@ -85,6 +77,5 @@ pub fn second(columns: Planes, at: usize) -> Planes
     Planes {
         low: back(columns.low, at),
         high: back(columns.high, at),
-        top: back(columns.top, at),
     }
 }

@@ -8,10 +8,10 @@ use lib.Dec.{ltb}
 use lib.ListN.{length}
 use Rattle.bits.specs.Bits.{some, first}
 use Rattle.rdis.specs.Packing.{width, counter, spareClear}
-use Rattle.grid_counters.specs.Steps.{AreBits, Judges}
+use Rattle.grid_counters.specs.Steps.{AreThrees, Judges}
 use Rattle.grid_counters.specs.Promises.{convertible}
 use Rattle.grid_counters.proofs.PackLaws.{width-some, width-few}
-use Rattle.grid_counters.proofs.PlaneLaws.{bits-ext}
+use Rattle.grid_counters.proofs.ThreeLaws.{threes-ext}
 use Rattle.grid_counters.proofs.PromiseLaws.{Room, counter-few}
 use Rattle.grid_counters.proofs.ConvertLaws.{not-convertible, convert-room, convert-refused, convert-done}
 use Rattle.grid_counters.proofs.convert.Statement.{statement}
@@ -36,14 +36,14 @@ narrow : (w : tie.After-width) → (0 < w .width .result) × (w .width .result �
 narrow w = let k = begin (w .before .before) .args .k in (omega (arith, w .width .ensures, width-some k), omega (arith, w .width .ensures, width-few k))
 
 -- the planes of the counters that the bytes hold
-first-planes : (p : tie.After-planes-from) → let a = begin (p .before .before .before) .args in AreBits 64 (counter (width (a .k)) (a .bytes .now)) (p .planes-from .result)
+first-planes : (p : tie.After-planes-at) → let a = begin (p .before .before .before) .args in AreThrees 64 (counter (width (a .k)) (a .bytes .now)) (p .planes-at .result)
 first-planes p =
     let a = begin (p .before .before .before) .args in
     let f = counter (width (a .k)) (a .bytes .now) in
-    bits-ext 64 _ f _ (λ i _. ap f (omega arith)) (rw (p .before .width .ensures) at (p .planes-from .ensures))
+    threes-ext 64 _ f _ (λ i _. ap f (omega arith)) (rw (p .before .width .ensures) at (p .planes-at .ensures))
 
-second-planes : (p : tie.After-planes-from2) → let a = begin (p .before .before .before .before) .args in AreBits 64 (λ i. counter (width (a .k)) (a .bytes .now) (64 + i)) (p .planes-from2 .result)
-second-planes p = rw (p .before .before .width .ensures) at (p .planes-from2 .ensures)
+second-planes : (p : tie.After-planes-at2) → let a = begin (p .before .before .before .before) .args in AreThrees 64 (λ i. counter (width (a .k)) (a .bytes .now) (64 + i)) (p .planes-at2 .result)
+second-planes p = rw (p .before .before .width .ensures) at (p .planes-at2 .ensures)
 
 -- what was judged
 clear-is : (j : tie.After-judge-planes) → let a = begin (j .before .before .before .before .before .before .before .before) .args in j .before .before .before .spare-clear .result ≡ spareClear (width (a .k)) (a .rows + a .columns) (a .bytes .now)
@@ -68,7 +68,7 @@ convert-spec =
     (λ c. let a = begin (c .before) .args in not-convertible (a .k) (a .to) (a .rows) (a .columns) (a .bytes .now) (a .out .now) _ (can-be (c .before)) (c .if1 .taken))
     -- width-requires
     (λ c κs. search needs)
-    -- planes-from-requires, planes-from-requires-2
+    -- planes-at-requires, planes-at-requires-2
     (λ c κs. (narrow c .0, narrow c .1, refl, omega arith)) (λ c κs. (narrow (c .before) .0, narrow (c .before) .1, refl, omega arith))
     -- add-spare-clear
     (λ c. let r = room (c .before .before .before) in omega (arith, r .rows, r .columns))
@@ -79,7 +79,7 @@ convert-spec =
     (omega (arith, narrow w .1), omega (arith, r .rows, r .columns), rw (w .width .ensures) (r .size)))
     -- above-requires, above-requires-2, judge-planes-requires, width-requires-2
     (λ c κs. search needs) (λ c κs. search needs) (λ c κs. search needs) (λ c κs. search needs)
-    -- fill-requires
+    -- fill-at-requires
     (λ c κs. let to = begin (c .before .before .before .before .before .before .before .before .before .before .before .before) .args .to in (omega (arith, c .width2 .ensures, width-some to), omega (arith, c .width2 .ensures, width-few to)))
     -- same-length
     (λ c. search needs)
@@ -90,7 +90,7 @@ convert-spec =
     let e = j .before .before .before .before .before .before .before in
     let a = begin (e .before) .args in
     convert-done (a .k) (a .to) (a .rows) (a .columns) (a .bytes .now) (a .out .now) (can e) _ (clear-is j) (j .judge-planes .result) (verdict j) (f .before .before .before .if2 .taken)
-    _ _ (first-planes (j .before .before .before .before .before)) (second-planes (j .before .before .before .before)) (f .before .width2 .result) (f .before .width2 .ensures) (f .fill .last .0) (omega (arith, c .before .out .given)) (f .fill .ensures))
+    _ _ (first-planes (j .before .before .before .before .before)) (second-planes (j .before .before .before .before)) (f .before .width2 .result) (f .before .width2 .ensures) (f .fill-at .last .0) (omega (arith, c .before .out .given)) (f .fill-at .ensures))
     -- returns-3
     (λ c.
     let j = c .before .before in

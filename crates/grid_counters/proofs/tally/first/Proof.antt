@@ -7,10 +7,9 @@ pub first-spec : {M : Type 1} → statement M
 first-spec =
     tie.close
     (tie.spec
-    (λ c κs. search needs) (λ c κs. search needs) (λ c κs. search needs)
+    (λ c κs. search needs) (λ c κs. search needs)
     -- returns
     (λ c f r q. record {
-      lower = c .before .before .front .ensures (λ i. has (f i) 0) (r .lower) (q .lower);
-      higher = c .before .front2 .ensures (λ i. has (f i) 1) (r .higher) (q .higher);
-      highest = c .front3 .ensures (λ i. has (f i) 2) (r .highest) (q .highest);
+      lower = c .before .front .ensures (λ i. has (f i) 0) (r .lower) (q .lower);
+      higher = c .front2 .ensures (λ i. has (f i) 1) (r .higher) (q .higher);
     }))

@@ -9,10 +9,9 @@ pub second-spec : {M : Type 1} → statement M
 second-spec =
     tie.close
     (tie.spec
-    (λ c κs. search needs) (λ c κs. search needs) (λ c κs. search needs)
+    (λ c κs. search needs) (λ c κs. search needs)
     -- returns
     (λ c f q past. record {
-      lower = c .before .before .back .ensures (λ i. has (f i) 0) (q .lower) (λ t h. ap (λ x. has x 0) (past t h) ∙ has-zero 0);
-      higher = c .before .back2 .ensures (λ i. has (f i) 1) (q .higher) (λ t h. ap (λ x. has x 1) (past t h) ∙ has-zero 1);
-      highest = c .back3 .ensures (λ i. has (f i) 2) (q .highest) (λ t h. ap (λ x. has x 2) (past t h) ∙ has-zero 2);
+      lower = c .before .back .ensures (λ i. has (f i) 0) (q .lower) (λ t h. ap (λ x. has x 0) (past t h) ∙ has-zero 0);
+      higher = c .back2 .ensures (λ i. has (f i) 1) (q .higher) (λ t h. ap (λ x. has x 1) (past t h) ∙ has-zero 1);
     }))

@@ -37,8 +37,8 @@ tally-spec =
     (omega arith, times-step sets (l .m) (c .with-set .result) (c .with-set .ensures (times sets (l .m)) (l .inv .1))))
     -- returns
     (λ c.
-    let l = c .before .before .before .before .loop in
-    let b = c .before .before .before .before .before in
+    let l = c .before .before .before .loop in
+    let b = c .before .before .before .before in
     let s = b .before in
     let e : l .m ≡ s .args .used = omega arith in
     masked-planes (s .args .n) (b .low-bits .result) (times (s .args .sets .now) (s .args .used)) (l .p) (s .pre .1) (b .low-bits .ensures)

@@ -1,7 +1,7 @@
 use borrow.Author.Needs.{needs}
-use Rattle.grid_counters.proofs.PlaneLaws.{thirds-joined}
-use Rattle.grid_counters.proofs.planes.thirds_of_two.Statement.{statement}
-use Rattle.grid_counters.proofs.planes.thirds_of_two.Tie as tie
+use Rattle.grid_counters.proofs.ThreeLaws.{thirds-joined}
+use Rattle.grid_counters.proofs.threes.thirds_of_two.Statement.{statement}
+use Rattle.grid_counters.proofs.threes.thirds_of_two.Tie as tie
 
 pub thirds-of-two-spec : {M : Type 1} → statement M
 thirds-of-two-spec =

@@ -1,6 +1,6 @@
 use Rattle.grid_counters.proofs.SpreadLaws.{thirds-apart, no-thirds-apart}
-use Rattle.grid_counters.proofs.fill.apart_by_three.Statement.{statement}
-use Rattle.grid_counters.proofs.fill.apart_by_three.Tie as tie
+use Rattle.grid_counters.proofs.threes.apart_by_three.Statement.{statement}
+use Rattle.grid_counters.proofs.threes.apart_by_three.Tie as tie
 
 pub apart-by-three-spec : {M : Type 1} → statement M
 apart-by-three-spec =

@@ -1,8 +1,7 @@
 use borrow.Author.Needs.{needs}
-use native.Mathlib.Omega.{arith}
-use Rattle.grid_counters.proofs.FillLaws.{threes-stored}
-use Rattle.grid_counters.proofs.fill.store_threes.Statement.{statement}
-use Rattle.grid_counters.proofs.fill.store_threes.Tie as tie
+use Rattle.grid_counters.proofs.ThreeFillLaws.{threes-stored}
+use Rattle.grid_counters.proofs.threes.store_threes.Statement.{statement}
+use Rattle.grid_counters.proofs.threes.store_threes.Tie as tie
 
 pub store-threes-spec : {M : Type 1} → statement M
 store-threes-spec =
@@ -20,9 +19,8 @@ store-threes-spec =
     let s2 = s3 .before .before .before .before in
     let s1 = s2 .before .before .before .before in
     let d = s1 .before .before in
-    let k = d .before .before .before .before in
-    let b = k .before .before .before .before in
-    let a = b .before .before .before .before in
+    let a = d .before .before .before in
     let e = a .before .before .args in
-    threes-stored (e .q) (e .p) (a .triples .result) (b .triples2 .result) (k .triples3 .result) (d .triples4 .result)
-    (a .triples .ensures) (b .triples2 .ensures) (k .triples3 .ensures) (d .triples4 .ensures) (e .out .now) (s1 .store .last .0) (s2 .store2 .last .0) (s3 .store3 .last .0) (s1 .store .ensures) (s2 .store2 .ensures) (s3 .store3 .ensures)))
+    threes-stored (e .q) (e .p) (a .triples .result) (d .before .before .triples2 .result) (d .before .triples3 .result) (d .triples4 .result)
+    (a .triples .ensures) (d .before .before .triples2 .ensures) (d .before .triples3 .ensures) (d .triples4 .ensures)
+    (e .out .now) (s1 .store .last .0) (s2 .store2 .last .0) (s3 .store3 .last .0) (s1 .store .ensures) (s2 .store2 .ensures) (s3 .store3 .ensures)))

@@ -1,7 +1,7 @@
 use borrow.Author.Needs.{needs}
-use Rattle.grid_counters.proofs.PlaneLaws.{third-plane-is}
-use Rattle.grid_counters.proofs.planes.third_plane.Statement.{statement}
-use Rattle.grid_counters.proofs.planes.third_plane.Tie as tie
+use Rattle.grid_counters.proofs.ThreeLaws.{third-plane-is}
+use Rattle.grid_counters.proofs.threes.third_plane.Statement.{statement}
+use Rattle.grid_counters.proofs.threes.third_plane.Tie as tie
 
 pub third-plane-spec : {M : Type 1} → statement M
 third-plane-spec =

@@ -1,6 +1,6 @@
 use Rattle.grid_counters.proofs.GatherLaws.{thirds-are, no-thirds}
-use Rattle.grid_counters.proofs.planes.thirds.Statement.{statement}
-use Rattle.grid_counters.proofs.planes.thirds.Tie as tie
+use Rattle.grid_counters.proofs.threes.thirds.Statement.{statement}
+use Rattle.grid_counters.proofs.threes.thirds.Tie as tie
 
 pub thirds-spec : {M : Type 1} → statement M
 thirds-spec =

@@ -1,7 +1,7 @@
 use borrow.Author.Needs.{needs}
-use Rattle.grid_counters.proofs.FillLaws.{tripled}
-use Rattle.grid_counters.proofs.fill.triples.Statement.{statement}
-use Rattle.grid_counters.proofs.fill.triples.Tie as tie
+use Rattle.grid_counters.proofs.ThreeFillLaws.{tripled}
+use Rattle.grid_counters.proofs.threes.triples.Statement.{statement}
+use Rattle.grid_counters.proofs.threes.triples.Tie as tie
 
 pub triples-spec : {M : Type 1} → statement M
 triples-spec =
