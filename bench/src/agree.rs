@@ -16,7 +16,7 @@ pub const CALLS_OF_A_KIND: usize = 50_000;
 pub const SEED: u64 = 2026;
 
 /// How often each number from 0 to 13 came up, for each kind.
-pub type Tally = [[usize; 14]; 5];
+pub type Tally = [[usize; 14]; KINDS.len()];
 
 /// The numbers that the report shows; 8 to 12 are no call's.
 const SHOWN: [usize; 9] = [0, 1, 2, 3, 4, 5, 6, 7, 13];
@@ -54,14 +54,15 @@ fn compare_any(call: &Call) -> Result<usize, String> {
         Call::GridPlan(c) => compare(c),
         Call::GridRead(c) => compare(c),
         Call::GridStore(c) => compare(c),
+        Call::GridConvert(c) => compare(c),
     }
 }
 
 /// Compares so many calls of each kind; how often each number came up, or the first call on which they differ.
 pub fn agree(calls_of_a_kind: usize) -> Result<Tally, String> {
     let mut calls = Calls::new(SEED);
-    let mut compared = [0; 5];
-    let mut tally = [[0; 14]; 5];
+    let mut compared = [0; KINDS.len()];
+    let mut tally = [[0; 14]; KINDS.len()];
     while compared.iter().any(|count| *count < calls_of_a_kind) {
         let call = calls.next_call();
         let kind = kind_of(&call);

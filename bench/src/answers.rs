@@ -35,6 +35,14 @@ pub struct GridReadAnswer {
     pub index: usize,
 }
 
+/// What a grid convert answers: the number, and with number 4 the index of the first counter above K.
+#[repr(C)]
+#[derive(Clone, Copy, Debug, Default, PartialEq, Eq)]
+pub struct GridConvertAnswer {
+    pub number: usize,
+    pub index: usize,
+}
+
 /// What a grid plan and a grid store answer: the number, L, all stuck cells F, apart the wrong and the right ones, and
 /// with number 4 the index of the first counter above K.
 #[repr(C)]
@@ -70,5 +78,6 @@ answers!(
     PointerReadAnswer,
     PointerWriteAnswer,
     GridReadAnswer,
+    GridConvertAnswer,
     GridAnswer
 );

@@ -1,6 +1,7 @@
-//! The archive's five functions, as `include/ernavluq.h` declares them, over slices.
+//! The archive's six functions, as `include/ernavluq.h` declares them, over slices.
 
-use crate::answers::{GridAnswer, GridReadAnswer, PointerReadAnswer, PointerWriteAnswer};
+use crate::answers::{GridAnswer, GridConvertAnswer, GridReadAnswer};
+use crate::answers::{PointerReadAnswer, PointerWriteAnswer};
 
 extern "C" {
     fn ernavluq_pointer_read(
@@ -64,6 +65,16 @@ extern "C" {
         cells: *mut u64,
         cells_length: usize,
     ) -> GridAnswer;
+    fn ernavluq_grid_convert(
+        rows: usize,
+        columns: usize,
+        k: usize,
+        to: usize,
+        counters: *const u8,
+        counters_length: usize,
+        out: *mut u8,
+        out_length: usize,
+    ) -> GridConvertAnswer;
 }
 
 /// The archive's pointer read.
@@ -188,6 +199,24 @@ pub fn grid_store(
             counters.len(),
             cells.as_mut_ptr(),
             cells.len(),
+        )
+    }
+}
+
+/// The archive's grid convert; the numbers are rows, columns, K and the target.
+#[inline(always)]
+pub fn grid_convert(numbers: [usize; 4], counters: &[u8], out: &mut [u8]) -> GridConvertAnswer {
+    // SAFETY: as for the pointer read.
+    unsafe {
+        ernavluq_grid_convert(
+            numbers[0],
+            numbers[1],
+            numbers[2],
+            numbers[3],
+            counters.as_ptr(),
+            counters.len(),
+            out.as_mut_ptr(),
+            out.len(),
         )
     }
 }

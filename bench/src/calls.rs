@@ -3,26 +3,29 @@
 use second::call::Call;
 use second::make::Maker;
 use second::random::Random;
+use second::{cases_convert, cases_convert_refused, cases_levels, cases_wide_counters};
 use second::{cases_grid, cases_pointer, long};
 
-use crate::{calls_bad_counter, calls_grid, calls_pointer};
+use crate::{calls_bad_counter, calls_convert, calls_grid, calls_pointer};
 
 /// The kinds of calls, by their tags less one.
-pub const KINDS: [&str; 5] = [
+pub const KINDS: [&str; 6] = [
     "pointer write",
     "pointer read",
     "grid plan",
     "grid read",
     "grid store",
+    "grid convert",
 ];
 
 /// The numbers that a call of each kind can answer.
-pub const NUMBERS: [&[usize]; 5] = [
+pub const NUMBERS: [&[usize]; 6] = [
     &[0, 1, 2, 3, 4, 5, 6],
     &[0, 1, 2, 3, 4, 5],
     &[0, 1, 2, 3, 7],
     &[0, 1, 2, 3, 4],
     &[0, 1, 2, 3, 4, 13],
+    &[0, 1, 2, 3, 4],
 ];
 
 /// The kind of a call.
@@ -33,6 +36,7 @@ pub fn kind_of(call: &Call) -> usize {
         Call::GridPlan(_) => 2,
         Call::GridRead(_) => 3,
         Call::GridStore(_) => 4,
+        Call::GridConvert(_) => 5,
     }
 }
 
@@ -46,7 +50,15 @@ pub struct Calls {
 impl Calls {
     /// The calls of a seed.
     pub fn new(seed: u64) -> Calls {
-        let cases = cases_pointer::all().into_iter().chain(cases_grid::all());
+        let cases = [
+            cases_pointer::all(),
+            cases_grid::all(),
+            cases_levels::all(),
+            cases_wide_counters::all(),
+            cases_convert::all(),
+            cases_convert_refused::all(),
+        ];
+        let cases = cases.into_iter().flatten();
         Calls {
             listed: cases.map(|(_, call)| call).chain(long::all()).collect(),
             maker: Maker::new(seed),
@@ -63,14 +75,16 @@ impl Calls {
         if random.percent(80) {
             return self.maker.next_call();
         }
-        match random.below(10) {
+        match random.below(12) {
             0 | 1 => Call::PointerWrite(calls_pointer::rough_write(random)),
             2 | 3 => Call::PointerRead(calls_pointer::rough_read(random)),
             4 | 5 => Call::GridPlan(calls_grid::rough_plan(random)),
             6 => Call::GridRead(calls_grid::rough_read(random)),
             7 => Call::GridRead(calls_bad_counter::read(random)),
             8 => Call::GridStore(calls_grid::rough_store(random)),
-            _ => Call::GridStore(calls_bad_counter::store(random)),
+            9 => Call::GridStore(calls_bad_counter::store(random)),
+            10 => Call::GridConvert(calls_convert::rough(random)),
+            _ => Call::GridConvert(calls_convert::damaged(random)),
         }
     }
 }

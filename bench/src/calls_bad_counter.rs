@@ -2,18 +2,18 @@
 //! refused with 1, 2, 3 or 13.
 
 use second::call::{GridRead, GridStore};
+use second::counters::counter_width;
 use second::random::Random;
 
-use crate::calls_grid::{lower_threes, mask_faults, rough_counters, rough_read, rough_store};
+use crate::calls_grid::{
+    lower_to_k, mask_faults, rough_counters, rough_read, rough_store, set_counter,
+};
 
-/// The only K that a counter can be above today: two bits hold 3.
-const K: u64 = 2;
-
-/// The bits of its counters.
-const WIDTH: usize = 2;
+/// Every K that a counter of its width can be above: two bits hold 3, and three hold 5, 6 and 7.
+const EXCEEDED: [u64; 4] = [2, 4, 5, 6];
 
 /// The least numbers above the ranges of rows, columns and K.
-const TOO_MANY: [u64; 3] = [65, 65, 4];
+const TOO_MANY: [u64; 3] = [65, 65, 8];
 
 /// Up to five of the counters from this place on, of which there are so many.
 fn a_few(random: &mut Random, start: usize, count: usize) -> Vec<usize> {
@@ -37,14 +37,18 @@ fn some_places(random: &mut Random, rows: usize, columns: usize) -> Vec<usize> {
     }
 }
 
-/// Counters of any bits for these numbers, of which some places alone are above K.
-fn bad_counters(random: &mut Random, numbers: [u64; 3]) -> Vec<u8> {
-    let mut counters = rough_counters(random, numbers, WIDTH);
-    lower_threes(&mut counters);
+/// Gives numbers a K that counters can be above, and counters of any bits, of which some places alone are: by any value
+/// that the width holds, so that the first is often not the greatest.
+pub fn put_bad_counters(random: &mut Random, numbers: &mut [u64; 3], counters: &mut Vec<u8>) {
+    let k = random.pick(&EXCEEDED);
+    numbers[2] = k;
+    *counters = rough_counters(random, *numbers);
+    lower_to_k(*numbers, counters);
+    let highest = (1 << counter_width(k as usize)) - 1;
     for place in some_places(random, numbers[0] as usize, numbers[1] as usize) {
-        counters[place / 4] |= 3 << (place % 4 * WIDTH);
+        let value = random.between(k as usize + 1, highest);
+        set_counter(counters, k, place, value);
     }
-    counters
 }
 
 /// Adds what is refused with 1, 2 or 3, if it can: a number, a length, a bit past the last column or a spare bit. The
@@ -74,7 +78,7 @@ fn damage(
             let row = random.below(words[buffer].len());
             words[buffer][row] |= 1 << random.between(columns, 63);
         }
-        // With a multiple of four counters there is no spare bit, and this is the last column's.
+        // Where no bit is spare, this is the last column's.
         _ => *counters.last_mut().unwrap() |= 0x80,
     }
 }
@@ -82,8 +86,7 @@ fn damage(
 /// A grid read of any bits with bad counters.
 pub fn read(random: &mut Random) -> GridRead {
     let mut call = rough_read(random);
-    call.numbers[2] = K;
-    call.counters = bad_counters(random, call.numbers);
+    put_bad_counters(random, &mut call.numbers, &mut call.counters);
     if random.percent(30) {
         let mut words = [&mut call.cells, &mut call.output];
         damage(random, &mut call.numbers, &mut words, &mut call.counters);
@@ -94,8 +97,7 @@ pub fn read(random: &mut Random) -> GridRead {
 /// A grid store of any bits with bad counters; in half of them these would mask the faults.
 pub fn store(random: &mut Random) -> GridStore {
     let mut call = rough_store(random);
-    call.numbers[2] = K;
-    call.counters = bad_counters(random, call.numbers);
+    put_bad_counters(random, &mut call.numbers, &mut call.counters);
     if random.bit() {
         mask_faults(random, &mut call);
     }

@@ -1,24 +1,21 @@
 //! Rough grid calls: any bits in grids of any shape, mostly in range.
 
-use second::bits::bytes_that_hold;
+use second::bits::{bytes_that_hold, set_bit_of_bytes};
 use second::call::{GridPlan, GridRead, GridStore};
-use second::counters::{is_inverted, unpacked_counters};
+use second::counters::{counter_width, is_inverted, stored_counter, unpacked_counters};
 use second::make_grid::shape_of;
 use second::random::Random;
 
 use crate::calls::sparse_word;
 
-/// Rows, columns and K, each anything in its range, and the bits of a counter.
-fn rough_numbers(random: &mut Random) -> ([u64; 3], usize) {
-    let numbers = [
-        random.between(1, 64),
-        random.between(1, 64),
-        random.between(1, 3),
-    ];
-    (
-        numbers.map(|number| number as u64),
-        if numbers[2] == 1 { 1 } else { 2 },
-    )
+/// Rows, columns and K, each anything in its range.
+pub fn rough_numbers(random: &mut Random) -> [u64; 3] {
+    [64, 64, 7].map(|most| random.between(1, most) as u64)
+}
+
+/// The bits that the counters of these numbers take.
+fn used_bits([rows, columns, k]: [u64; 3]) -> usize {
+    (rows + columns) as usize * counter_width(k as usize)
 }
 
 /// Sparse words for these rows and columns; now and then a bit past the last column.
@@ -35,7 +32,7 @@ fn rough_words(random: &mut Random, numbers: [u64; 3], halvings: usize) -> Vec<u
 
 /// A grid plan of any bits in a grid of any shape.
 pub fn rough_plan(random: &mut Random) -> GridPlan {
-    let (numbers, width) = rough_numbers(random);
+    let numbers = rough_numbers(random);
     let halvings = random.pick(&[0, 2, 4, 5, 6, 7, 8, 9]);
     let data = rough_words(random, numbers, 0);
     let turned = random.pick(&[0, 0, 1, 3, 6]);
@@ -52,13 +49,13 @@ pub fn rough_plan(random: &mut Random) -> GridPlan {
         data,
         mask: rough_words(random, numbers, halvings),
         values,
-        counters: random.bytes(bytes_that_hold((numbers[0] + numbers[1]) as usize * width)),
+        counters: random.bytes(bytes_that_hold(used_bits(numbers))),
     }
 }
 
 /// Counters of any bits, mostly without spare ones.
-pub fn rough_counters(random: &mut Random, numbers: [u64; 3], width: usize) -> Vec<u8> {
-    let used = (numbers[0] + numbers[1]) as usize * width;
+pub fn rough_counters(random: &mut Random, numbers: [u64; 3]) -> Vec<u8> {
+    let used = used_bits(numbers);
     let halvings = random.pick(&[0, 1, 3, 5]);
     let mut counters: Vec<u8> = (0..bytes_that_hold(used))
         .map(|_| sparse_word(random, halvings) as u8)
@@ -69,17 +66,30 @@ pub fn rough_counters(random: &mut Random, numbers: [u64; 3], width: usize) -> V
     counters
 }
 
-/// Makes 2 of each counter of 3: where both bits are 1, the low one goes.
-pub fn lower_threes(counters: &mut [u8]) {
-    counters
-        .iter_mut()
-        .for_each(|byte| *byte &= !(*byte >> 1 & 0x55));
+/// Gives the counter at a place this value and leaves every other bit.
+pub fn set_counter(counters: &mut [u8], k: u64, place: usize, value: usize) {
+    let width = counter_width(k as usize);
+    for bit in 0..width {
+        set_bit_of_bytes(counters, place * width + bit, value >> bit & 1 == 1);
+    }
 }
 
-/// A grid read of any bits in a grid of any shape.
+/// Makes K of each counter above it.
+pub fn lower_to_k([rows, columns, k]: [u64; 3], counters: &mut [u8]) {
+    for place in 0..(rows + columns) as usize {
+        if stored_counter(counters, counter_width(k as usize), place) > k as usize {
+            set_counter(counters, k, place, k as usize);
+        }
+    }
+}
+
+/// A grid read of any bits in a grid of any shape; in half of them no counter is above K.
 pub fn rough_read(random: &mut Random) -> GridRead {
-    let (numbers, width) = rough_numbers(random);
-    let counters = rough_counters(random, numbers, width);
+    let numbers = rough_numbers(random);
+    let mut counters = rough_counters(random, numbers);
+    if random.bit() {
+        lower_to_k(numbers, &mut counters);
+    }
     GridRead {
         numbers,
         cells: rough_words(random, numbers, 0),
@@ -114,10 +124,9 @@ pub fn mask_faults(random: &mut Random, call: &mut GridStore) {
 /// A grid store of any bits with any counters in a grid of any shape; in half of them the counters mask the faults.
 pub fn rough_store(random: &mut Random) -> GridStore {
     let plan = rough_plan(random);
-    let width = if plan.numbers[2] == 1 { 1 } else { 2 };
-    let mut counters = rough_counters(random, plan.numbers, width);
-    if plan.numbers[2] == 2 && random.percent(80) {
-        lower_threes(&mut counters);
+    let mut counters = rough_counters(random, plan.numbers);
+    if random.percent(80) {
+        lower_to_k(plan.numbers, &mut counters);
     }
     let mut call = GridStore {
         numbers: plan.numbers,

@@ -1,8 +1,9 @@
 //! The three contestants under one set of names.
 
-use second::call::{GridPlan, GridRead, GridStore, PointerRead, PointerWrite};
+use second::call::{GridConvert, GridPlan, GridRead, GridStore, PointerRead, PointerWrite};
 
-use crate::answers::{GridAnswer, GridReadAnswer, PointerReadAnswer, PointerWriteAnswer};
+use crate::answers::{GridAnswer, GridConvertAnswer, GridReadAnswer};
+use crate::answers::{PointerReadAnswer, PointerWriteAnswer};
 use crate::{archive, peer};
 
 /// A number of a call as the machine's own word; they have the same 64 bits.
@@ -24,13 +25,14 @@ fn of_second(answer: second::grid::Answer) -> GridAnswer {
     }
 }
 
-/// Somebody who makes the five calls.
+/// Somebody who makes the six calls.
 pub trait Contestant {
     fn pointer_write(call: &mut PointerWrite) -> PointerWriteAnswer;
     fn pointer_read(call: &mut PointerRead) -> PointerReadAnswer;
     fn grid_plan(call: &mut GridPlan) -> GridAnswer;
     fn grid_read(call: &mut GridRead) -> GridReadAnswer;
     fn grid_store(call: &mut GridStore) -> GridAnswer;
+    fn grid_convert(call: &mut GridConvert) -> GridConvertAnswer;
 }
 
 /// The archive under test.
@@ -84,6 +86,11 @@ impl Contestant for Archive {
             &c.counters,
             &mut c.cells,
         )
+    }
+
+    #[inline(always)]
+    fn grid_convert(c: &mut GridConvert) -> GridConvertAnswer {
+        archive::grid_convert(c.numbers.map(word), &c.counters, &mut c.output)
     }
 }
 
@@ -141,6 +148,12 @@ impl Contestant for Peer {
             &mut c.cells,
         )
     }
+
+    #[inline(always)]
+    fn grid_convert(c: &mut GridConvert) -> GridConvertAnswer {
+        let [rows, columns, k, to] = c.numbers.map(word);
+        peer::convert::convert(rows, columns, k, to, &c.counters, &mut c.output)
+    }
 }
 
 impl Contestant for Second {
@@ -195,5 +208,14 @@ impl Contestant for Second {
             &mut c.cells,
         );
         of_second(answer)
+    }
+
+    #[inline(always)]
+    fn grid_convert(c: &mut GridConvert) -> GridConvertAnswer {
+        let answer = second::convert::convert(c.numbers, &c.counters, &mut c.output);
+        GridConvertAnswer {
+            number: usize::from(answer.number),
+            index: answer.index,
+        }
     }
 }

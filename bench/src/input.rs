@@ -1,8 +1,9 @@
 //! The calls as inputs that any contestant can be given, again and again.
 
-use second::call::{GridPlan, GridRead, GridStore, PointerRead, PointerWrite};
+use second::call::{GridConvert, GridPlan, GridRead, GridStore, PointerRead, PointerWrite};
 
-use crate::answers::{Answer, GridAnswer, GridReadAnswer, PointerReadAnswer, PointerWriteAnswer};
+use crate::answers::{Answer, GridAnswer, GridConvertAnswer, GridReadAnswer};
+use crate::answers::{PointerReadAnswer, PointerWriteAnswer};
 use crate::contestant::Contestant;
 
 /// The arguments of one kind of call.
@@ -80,5 +81,18 @@ impl Input for GridStore {
 
     fn restore(&mut self, before: &GridStore) {
         self.cells.copy_from_slice(&before.cells);
+    }
+}
+
+impl Input for GridConvert {
+    type Answer = GridConvertAnswer;
+
+    #[inline(always)]
+    fn made_by<C: Contestant>(&mut self) -> GridConvertAnswer {
+        C::grid_convert(self)
+    }
+
+    fn restore(&mut self, before: &GridConvert) {
+        self.output.copy_from_slice(&before.output);
     }
 }

@@ -3,6 +3,7 @@
 
 use second::bits::bytes_that_hold;
 use second::call::{GridPlan, GridRead, GridStore};
+use second::counters::counter_width;
 use second::random::Random;
 
 use crate::answers::Answer;
@@ -20,7 +21,7 @@ pub struct Block {
 
 /// A square block of any data without a stuck cell; old cells and counters hold anything.
 fn sound_block(random: &mut Random, size: usize, k: usize) -> Block {
-    let width = if k == 1 { 1 } else { 2 };
+    let width = counter_width(k);
     let line = u64::MAX >> (64 - size);
     let data = random.words(size).iter().map(|word| word & line).collect();
     let values = random.words(size).iter().map(|word| word & line).collect();
@@ -61,6 +62,21 @@ fn stick_any(random: &mut Random, call: &mut GridPlan, count: usize) {
     }
 }
 
+/// Places a staircase of so many cells, wrong and right in turn, over these rows and columns in their order.
+fn stick_staircase(
+    random: &mut Random,
+    call: &mut GridPlan,
+    length: usize,
+    rows: &[usize],
+    columns: &[usize],
+) {
+    let by_row = usize::from(random.bit());
+    for step in 0..length {
+        let place = (rows[(step + by_row) / 2], columns[(step + 1 - by_row) / 2]);
+        stick(call, place, step % 2 == 0);
+    }
+}
+
 /// Places a chain of 2 K + 1 cells, or a loop of four: either is refused with 7.
 fn stick_chain(random: &mut Random, call: &mut GridPlan, k: usize) {
     let rows = random.order(call.data.len());
@@ -70,11 +86,7 @@ fn stick_chain(random: &mut Random, call: &mut GridPlan, k: usize) {
             stick(call, (rows[row], columns[column]), row == column);
         }
     } else {
-        let by_row = usize::from(random.bit());
-        for step in 0..2 * k + 1 {
-            let place = (rows[(step + by_row) / 2], columns[(step + 1 - by_row) / 2]);
-            stick(call, place, step % 2 == 0);
-        }
+        stick_staircase(random, call, 2 * k + 1, &rows, &columns);
     }
 }
 
@@ -102,7 +114,21 @@ pub fn accepted(
     blocks
 }
 
-/// So many blocks of this size with ten stuck cells, the plans of all of them refused with 7 for K.
+/// So many blocks of this size whose plans take K levels: a staircase of 2 K - 1 cells, its rows and columns in any order.
+pub fn deep(random: &mut Random, count: usize, size: usize, k: usize) -> Vec<Block> {
+    let mut blocks = Vec::new();
+    for _ in 0..count {
+        let mut block = sound_block(random, size, k);
+        let rows = random.order(size);
+        let columns = random.order(size);
+        stick_staircase(random, &mut block.plan, 2 * k - 1, &rows, &columns);
+        assert_eq!(block.plan.clone().made_by::<Second>().levels, k);
+        blocks.push(block);
+    }
+    blocks
+}
+
+/// So many blocks of this size with ten stuck cells, or at K = 7 up to fifteen, the plans of all of them refused with 7.
 pub fn refused(random: &mut Random, count: usize, size: usize, k: usize) -> Vec<Block> {
     let mut blocks = Vec::new();
     while blocks.len() < count {

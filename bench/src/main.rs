@@ -3,7 +3,7 @@
 use std::process::ExitCode;
 
 use bench::time::Rounds;
-use bench::{agree, table};
+use bench::{agree, scenarios};
 
 const USAGE: &str = "usage: bench [time] [--quick] | bench agree";
 
@@ -37,7 +37,7 @@ fn main() -> ExitCode {
         return ExitCode::FAILURE;
     }
     if let Some(rounds) = rounds {
-        table::report(rounds);
+        scenarios::report(rounds);
     }
     ExitCode::SUCCESS
 }

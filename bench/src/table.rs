@@ -1,27 +1,21 @@
-//! The scenarios, and the table of their times and ratios.
+//! The table of times and ratios, line by line, and the summary of the ratios.
 
-use second::random::Random;
+use crate::time::Times;
 
-use crate::inputs_grid;
-use crate::inputs_pointer::{self, Rows};
-use crate::time::{time, Rounds, Times, INPUTS};
-
-/// The seed of the inputs and of the orders in which they are taken.
-const SEED: u64 = 7;
-
-/// The seed of what only stores need, so that all other inputs are those of the time when one write planned and stored.
-const STORE_SEED: u64 = 13;
-
-/// Prints the head of the table.
-fn print_head() {
-    println!(
-        "| {:<46} | {:>10} | {:>8} | {:>9} | {:>12} | {:>14} |",
-        "scenario", "archive ns", "peer ns", "second ns", "archive/peer", "second/archive"
-    );
-    println!("|---|---:|---:|---:|---:|---:|");
+/// The ratio archive/peer of one line: its call, and what it is summed up with, as a K.
+struct Ratio {
+    call: &'static str,
+    group: String,
+    value: f64,
 }
 
-/// Prints one line; answers archive/peer for the summary.
+/// A table in print: its ratios so far.
+#[derive(Default)]
+pub struct Table {
+    ratios: Vec<Ratio>,
+}
+
+/// Prints one line; answers archive/peer.
 fn print_line(scenario: &str, times: Times) -> f64 {
     let ratio = times.archive / times.peer;
     println!(
@@ -36,97 +30,75 @@ fn print_line(scenario: &str, times: Times) -> f64 {
     ratio
 }
 
-/// The grid scenarios; the ratios archive/peer of the plans, of the stores and of the reads.
-fn grid_lines(random: &mut Random, rounds: Rounds) -> [Vec<f64>; 3] {
-    let mut ratios = [Vec::new(), Vec::new(), Vec::new()];
-    let of_stores = &mut Random::new(STORE_SEED);
-    for size in [8, 16, 64] {
-        for k in [1, 3] {
-            let block = format!("{size} x {size}, K = {k}");
-            let mut stores = Vec::new();
-            for stuck in [0, 3, 10] {
-                let scenario = format!("{block}, {stuck} stuck");
-                let blocks = inputs_grid::accepted(random, INPUTS, size, k, stuck);
-                stores = inputs_grid::stores(&blocks);
-                let reads = inputs_grid::reads(random, &stores);
-                let planned = time(random, &inputs_grid::plans(&blocks), rounds);
-                ratios[0].push(print_line(&format!("grid plan, {scenario}"), planned));
-                let stored = time(of_stores, &stores, rounds);
-                ratios[1].push(print_line(&format!("grid store, {scenario}"), stored));
-                print_line(
-                    &format!("grid plan and store, {scenario}"),
-                    planned + stored,
-                );
-                let read = time(random, &reads, rounds);
-                ratios[2].push(print_line(&format!("grid read, {scenario}"), read));
-            }
-            let plans = inputs_grid::plans(&inputs_grid::refused(random, INPUTS, size, k));
-            let planned = time(random, &plans, rounds);
-            ratios[0].push(print_line(
-                &format!("grid plan, {block}, refused with 7"),
-                planned,
-            ));
-            let misreading = inputs_grid::misreading(of_stores, &stores);
-            let stored = time(of_stores, &misreading, rounds);
-            ratios[1].push(print_line(
-                &format!("grid store, {block}, refused with 13"),
-                stored,
-            ));
+/// The median of sorted ratios.
+fn median(sorted: &[f64]) -> f64 {
+    sorted[sorted.len() / 2]
+}
+
+/// The different ones among some names, in the order in which they come.
+fn different<'a>(names: impl Iterator<Item = &'a str>) -> Vec<&'a str> {
+    let mut seen = Vec::new();
+    for name in names {
+        if !seen.contains(&name) {
+            seen.push(name);
         }
     }
-    ratios
+    seen
 }
 
-/// The pointer scenarios; the ratios archive/peer of the writes and of the reads.
-fn pointer_lines(random: &mut Random, rounds: Rounds) -> [Vec<f64>; 2] {
-    let mut ratios = [Vec::new(), Vec::new()];
-    for n in [6, 10] {
-        for (name, rows) in [
-            ("no entry", Rows::NoEntry),
-            ("half active", Rows::Half),
-            ("all active", Rows::All),
-            ("new ones", Rows::New),
-            ("refused with 6", Rows::Refused),
-        ] {
-            let writes = inputs_pointer::writes(random, INPUTS, n, rows);
-            let written = time(random, &writes, rounds);
-            ratios[0].push(print_line(
-                &format!("pointer write, n = {n}, {name}"),
-                written,
-            ));
-            if rows != Rows::Refused {
-                let reads = inputs_pointer::reads(random, &writes);
-                let read = time(random, &reads, rounds);
-                ratios[1].push(print_line(&format!("pointer read, n = {n}, {name}"), read));
+impl Table {
+    /// Prints the head.
+    pub fn start() -> Table {
+        println!(
+            "| {:<46} | {:>10} | {:>8} | {:>9} | {:>12} | {:>14} |",
+            "scenario", "archive ns", "peer ns", "second ns", "archive/peer", "second/archive"
+        );
+        println!("|---|---:|---:|---:|---:|---:|");
+        Table::default()
+    }
+
+    /// Prints the line of a scenario of a call, and takes its ratio for the summary.
+    pub fn line(&mut self, call: &'static str, group: &str, scenario: &str, times: Times) {
+        let value = print_line(&format!("{call}, {scenario}"), times);
+        self.ratios.push(Ratio {
+            call,
+            group: String::from(group),
+            value,
+        });
+    }
+
+    /// Prints a line that is the sum of others, and so is not in the summary.
+    pub fn sum(&self, name: &str, scenario: &str, times: Times) {
+        print_line(&format!("{name}, {scenario}"), times);
+    }
+
+    /// The sorted ratios of a call, of one group or of all.
+    fn sorted(&self, call: &str, group: Option<&str>) -> Vec<f64> {
+        let mut sorted: Vec<f64> = self
+            .ratios
+            .iter()
+            .filter(|ratio| ratio.call == call && group.is_none_or(|group| ratio.group == group))
+            .map(|ratio| ratio.value)
+            .collect();
+        sorted.sort_by(f64::total_cmp);
+        sorted
+    }
+
+    /// Prints for each call the smallest, the median and the largest ratio, and the median of each group.
+    pub fn print_summary(&self) {
+        println!();
+        for call in different(self.ratios.iter().map(|ratio| ratio.call)) {
+            let all = self.sorted(call, None);
+            let (least, most) = (all[0], all[all.len() - 1]);
+            print!(
+                "archive/peer, {call}: {least:.2} to {most:.2}, median {:.2}",
+                median(&all)
+            );
+            let of_call = self.ratios.iter().filter(|ratio| ratio.call == call);
+            for group in different(of_call.map(|ratio| ratio.group.as_str())) {
+                print!("; {group}: {:.2}", median(&self.sorted(call, Some(group))));
             }
+            println!();
         }
     }
-    ratios
-}
-
-/// Prints the smallest, the median and the largest ratio of a kind.
-fn print_summary(kind: &str, ratios: &mut [f64]) {
-    ratios.sort_by(f64::total_cmp);
-    let (least, most) = (ratios[0], ratios[ratios.len() - 1]);
-    let median = ratios[ratios.len() / 2];
-    println!("archive/peer, {kind}: {least:.2} to {most:.2}, median {median:.2}");
-}
-
-/// Times every scenario and prints the table.
-pub fn report(rounds: Rounds) {
-    let mut random = Random::new(SEED);
-    println!(
-        "medians of {} rounds over {INPUTS} inputs (second program: every {}th round); nanoseconds a call",
-        rounds.count, rounds.second_each
-    );
-    println!();
-    print_head();
-    let [mut grid_plans, mut grid_stores, mut grid_reads] = grid_lines(&mut random, rounds);
-    let [mut pointer_writes, mut pointer_reads] = pointer_lines(&mut random, rounds);
-    println!();
-    print_summary("grid plan", &mut grid_plans);
-    print_summary("grid store", &mut grid_stores);
-    print_summary("grid read", &mut grid_reads);
-    print_summary("pointer write", &mut pointer_writes);
-    print_summary("pointer read", &mut pointer_reads);
 }

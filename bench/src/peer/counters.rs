@@ -1,4 +1,4 @@
-//! The packed counters of a grid: sets of rows and columns to bits and back, without a loop over counters.
+//! The packed counters of a grid at K from 1 to 3: sets of rows and columns to bits and back, without a loop over counters.
 
 use super::bytes::{load, store, store_up_to_8};
 
@@ -7,7 +7,7 @@ const EVEN: u64 = 0x5555_5555_5555_5555;
 
 /// Moves the 32 low bits of a word to its even places.
 #[inline(always)]
-fn spread(word: u64) -> u64 {
+pub fn spread(word: u64) -> u64 {
     let mut word = word & 0xffff_ffff;
     word = (word | word << 16) & 0x0000_ffff_0000_ffff;
     word = (word | word << 8) & 0x00ff_00ff_00ff_00ff;

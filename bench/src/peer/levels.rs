@@ -24,14 +24,14 @@ impl Stuck {
     }
 }
 
-/// What the levels took, and how many stuck cells there are.
-pub struct Levels {
+/// What up to so many levels took, and how many stuck cells there are.
+pub struct Levels<const MOST: usize> {
     /// The set of rows and the set of columns of each level, empty past the last.
-    pub sets: [[u64; 2]; 3],
+    pub sets: [[u64; 2]; MOST],
     pub stuck: Stuck,
 }
 
-impl Levels {
+impl<const MOST: usize> Levels<MOST> {
     /// How many levels took anything.
     #[inline(always)]
     pub fn count(&self) -> usize {
@@ -57,9 +57,9 @@ pub fn rows_with_any(words: &[u64]) -> u64 {
     set
 }
 
-/// The levels of a block, or nothing if a wrong cell is left after level K.
+/// The levels of a block, or nothing if a wrong cell is left after level K, which is not above the most.
 #[inline(always)]
-pub fn levels_of(k: usize, block: Block) -> Option<Levels> {
+pub fn levels_of<const MOST: usize>(k: usize, block: Block) -> Option<Levels<MOST>> {
     let Block { data, mask, values } = block;
     let mut stuck = Stuck::default();
     let mut taken = [0; 2];
@@ -72,7 +72,7 @@ pub fn levels_of(k: usize, block: Block) -> Option<Levels> {
         taken[1] |= wrong;
         rest &= rest - 1;
     }
-    let mut sets = [[0; 2]; 3];
+    let mut sets = [[0; 2]; MOST];
     let mut turned = 0;
     for set in sets.iter_mut().take(k) {
         if taken[1] == 0 {

@@ -36,7 +36,8 @@ pub fn grid_cases<C: Contestant>() {
     );
     refuses::<C, _>(&grid_plan(1, &[4, 0], &[0, 0], 1), 3);
     refuses::<C, _>(&grid_plan(0, &[0, 0], &[0, 0], 1), 1);
-    refuses::<C, _>(&grid_plan(4, &[0, 0], &[0, 0], 1), 1);
+    refuses::<C, _>(&grid_plan(8, &[0, 0], &[0, 0], 1), 1);
+    refuses::<C, _>(&grid_plan(8, &[0, 0], &[0, 0], 2), 1);
     let mut g10 = GridRead {
         numbers: [2, 2, 2],
         cells: vec![1, 2],

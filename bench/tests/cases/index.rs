@@ -1,4 +1,4 @@
-//! Which counter is the first above K, of document 02, A4: reads and stores of the same counters, four to a byte.
+//! Which counter is the first above K, of document 02, A4: reads and stores of the same counters, at K = 2 four to a byte.
 
 use bench::answers::{Answer, GridAnswer, GridReadAnswer};
 use bench::contestant::Contestant;
@@ -30,7 +30,7 @@ fn store([rows, columns, k]: [u64; 3], counters: &[u8]) -> GridStore {
 }
 
 /// Has read and store refused with 4 and this index.
-fn names<C: Contestant>(numbers: [u64; 3], counters: &[u8], index: usize) {
+pub fn names<C: Contestant>(numbers: [u64; 3], counters: &[u8], index: usize) {
     let of_read = GridReadAnswer { number: 4, index };
     let of_store = GridAnswer {
         index,
@@ -41,7 +41,7 @@ fn names<C: Contestant>(numbers: [u64; 3], counters: &[u8], index: usize) {
 }
 
 /// Has read and store refused with another number, and index 0.
-fn names_none<C: Contestant>(numbers: [u64; 3], counters: &[u8], number: usize) {
+pub fn names_none<C: Contestant>(numbers: [u64; 3], counters: &[u8], number: usize) {
     refuses::<C, _>(&read(numbers, counters), number);
     refuses::<C, _>(&store(numbers, counters), number);
 }
@@ -126,7 +126,7 @@ pub fn none<C: Contestant>() {
         [2, 0, 2],
         [2, 65, 2],
         [2, 3, 0],
-        [2, 3, 4],
+        [2, 3, 8],
     ] {
         names_none::<C>(outside, &bad, 1);
     }

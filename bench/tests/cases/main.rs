@@ -1,10 +1,13 @@
-//! The cases of document 01, and of document 02 stores of A7, fault counts of A9 and indices of A4, written out by
-//! hand: the peer answers them as the papers say, and so do the other two.
+//! The cases of document 01, and of document 02 stores of A7, fault counts of A9, indices of A4, and seven levels and
+//! conversions of A8, written out by hand: the peer answers them as the papers say, and so do the other two.
 
 mod blocks;
+mod convert;
 mod counts;
 mod grid;
 mod index;
+mod index_wide;
+mod levels;
 mod pointer;
 
 use bench::contestant::{Archive, Contestant, Peer, Second};
@@ -19,6 +22,17 @@ fn answers_the_cases<C: Contestant>() {
     index::several::<C>();
     index::words::<C>();
     index::none::<C>();
+    levels::depths::<C>();
+    levels::foreign_stores::<C>();
+    levels::lengths::<C>();
+    index_wide::places::<C>();
+    index_wide::several::<C>();
+    index_wide::words::<C>();
+    index_wide::none::<C>();
+    convert::accepted::<C>();
+    convert::numbers::<C>();
+    convert::lengths::<C>();
+    convert::counters::<C>();
 }
 
 #[test]
