@@ -45,6 +45,12 @@ ernavluq_grid_read_answer read_block(size_t rows, size_t columns, size_t k, stru
     return ernavluq_grid_read(rows, columns, k, b->cells, lengths[CELLS], b->counters, lengths[COUNTERS], b->out, lengths[OUT]);
 }
 
+void put_counter(uint8_t *bytes, size_t width, size_t t, size_t number)
+{
+    for (size_t q = 0, p = width * t; q < width; q++, p++)
+        bytes[p / 8] |= (uint8_t)((number >> q & 1) << p % 8);
+}
+
 int answers(ernavluq_grid_answer a, size_t number, size_t levels, size_t wrong, size_t right)
 {
     return a.number == number && a.levels == levels && a.faults == wrong + right && a.wrong == wrong && a.right == right && a.index == 0;
@@ -83,6 +89,9 @@ static int stored(size_t rows, size_t columns, size_t k, struct block *now, cons
     return good && shows(read_block(rows, columns, k, now, lengths), 0) && same(now, &want);
 }
 
+#define ZEROS "0000000 0000000 0000000 0000000 0000000 0000000 0000000"
+#define STAIRCASE "10..... .10.... ..10... ...10.. ....10. .....10 ......1"
+
 static const struct block_plan {
     const char *name;
     size_t columns, k;
@@ -100,10 +109,19 @@ static const struct block_plan {
     {"G5* a loop, K = 1", 2, 1, "00 00", "10 01", 7, 0, 0, 0, "FF", ""},
     {"G5* a loop, K = 2", 2, 2, "00 00", "10 01", 7, 0, 0, 0, "FF", ""},
     {"G5* a loop, K = 3", 2, 3, "00 00", "10 01", 7, 0, 0, 0, "FF", ""},
+    {"G5* a loop, K = 4", 2, 4, "00 00", "10 01", 7, 0, 0, 0, "FF FF", ""},
+    {"G5* a loop, K = 5", 2, 5, "00 00", "10 01", 7, 0, 0, 0, "FF FF", ""},
+    {"G5* a loop, K = 6", 2, 6, "00 00", "10 01", 7, 0, 0, 0, "FF FF", ""},
+    {"G5* a loop, K = 7", 2, 7, "00 00", "10 01", 7, 0, 0, 0, "FF FF", ""},
     {"G6* a chain of five, K = 3", 3, 3, "000 000 000", "10. .10 ..1", 0, 3, 3, 2, "5E 0B", "100 110 111"},
     {"G6* a chain of five, K = 2", 3, 2, "000 000 000", "10. .10 ..1", 7, 0, 0, 0, "FF FF", ""},
     {"G6  a chain of five in 4 by 4", 4, 3, "0000 0000 0000 0000", "10.. .10. ..1. ....", 0, 3, 3, 2, "1E 2D", "1000 1100 1110 0000"},
     {"G7  a chain of seven", 4, 3, "0000 0000 0000 0000", "10.. .10. ..10 ...1", 7, 0, 0, 0, "FF FF", ""},
+    {"A8* a chain of thirteen, K = 7", 7, 7, ZEROS, STAIRCASE, 0, 7, 7, 6, "A2 DF 25 EB 4D 01", "1000000 1100000 1110000 1111000 1111100 1111110 1111111"},
+    {"A8* a chain of thirteen, K = 6", 7, 6, ZEROS, STAIRCASE, 7, 0, 0, 0, "FF FF FF FF FF FF", ""},
+    {"A8* a chain of three, K = 4", 2, 4, "00 00", "10 .1", 0, 2, 2, 1, "4A 04", "10 11"},
+    {"A8* a chain of five, K = 7", 3, 7, "000 000 000", "10. .10 ..1", 0, 3, 3, 2, "5A 32 01", "100 110 111"},
+    {"A8  a chain of seven, K = 4", 4, 4, "0000 0000 0000 0000", "10.. .10. ..10 ...1", 0, 4, 4, 3, "E2 92 51", "1000 1100 1110 1111"},
     {"G8* three in turn, the ends are right", 2, 1, "00 00", "01 .0", 0, 1, 1, 2, "09", "01 00"},
     {"A9  one wrong and three right, sound values equal", 5, 1, "10110 01001", "v00v0 0v..v", 0, 1, 1, 3, "11", "10010 01001"},
     {"A9  one wrong and three right, sound values differ", 5, 1, "10110 01001", ".00.0 0.vv.", 0, 1, 1, 3, "11", "10010 01001"},
@@ -230,4 +248,5 @@ void try_blocks(void)
         try_block_read(&block_reads[i]);
     try_block_index();
     try_block_edges();
+    try_conversions();
 }

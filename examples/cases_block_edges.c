@@ -28,7 +28,8 @@ static void try_block_sizes(
 static void try_numbers(void)
 {
     static const size_t edges[][3] = {
-        {0, 1, 1}, {1, 1, 1}, {64, 1, 1}, {65, 1, 1}, {1, 0, 1}, {1, 64, 1}, {1, 65, 1}, {64, 64, 3}, {2, 2, 0}, {2, 2, 2}, {2, 2, 3}, {2, 2, 4},
+        {0, 1, 1}, {1, 1, 1}, {64, 1, 1}, {65, 1, 1}, {1, 0, 1}, {1, 64, 1}, {1, 65, 1}, {64, 64, 3}, {64, 64, 7}, {2, 2, 0}, {2, 2, 2}, {2, 2, 3}, {2, 2, 4},
+        {2, 2, 7}, {2, 2, 8},
         {((size_t)1 << 32) + 1, 1, 1}, {1, ((size_t)1 << 32) + 1, 1}, {1, 1, ((size_t)1 << 32) + 1}, {(size_t)-1, (size_t)-1, (size_t)-1},
     };
     static const size_t nothing[BUFFERS] = {0};
@@ -36,7 +37,7 @@ static void try_numbers(void)
     for (size_t i = 0; i < sizeof edges / sizeof *edges; i++) {
         size_t m = edges[i][0], n = edges[i][1], k = edges[i][2], rows = m > 65 ? 1 : m, columns = n > 65 ? 1 : n;
         size_t lengths[BUFFERS] = {rows, rows, rows, ERNAVLUQ_COUNTER_BYTES(rows, columns, k), rows, rows};
-        size_t number = m < 1 || m > 64 || n < 1 || n > 64 || k < 1 || k > 3;
+        size_t number = m < 1 || m > 64 || n < 1 || n > 64 || k < 1 || k > 7;
         snprintf(name, sizeof name, "G9  %zu by %zu, K = %zu", m, n, k);
         try_block_sizes(name, m, n, k, lengths, number, number, number);
         snprintf(name, sizeof name, "G9  %zu by %zu, K = %zu, all lengths 0", m, n, k);
@@ -49,7 +50,7 @@ static void try_lengths(void)
 {
     static const char *const buffers[] = {"words of data", "words of mask", "words of values", "bytes of counters", "words of cells", "words of output"};
     char name[120];
-    for (size_t k = 1; k <= 3; k++)
+    for (size_t k = 1; k <= 7; k++)
         for (int b = 0; b < BUFFERS; b++)
             for (int more = -1; more <= 1; more++) {
                 size_t lengths[BUFFERS] = {9, 9, 9, ERNAVLUQ_COUNTER_BYTES(9, 8, k), 9, 9};

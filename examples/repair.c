@@ -1,4 +1,4 @@
-/* Read this first: one row and one block of memory with stuck cells are written and read back, and three calls are refused.
+/* Read this first: one row and one block of memory with stuck cells are written and read back, counters are converted, and three calls are refused.
  *
  *     rt staticlib ernavluq
  *     cc -std=c99 -Iinclude examples/repair.c target/staticlib/libernavluq.a -o target/repair && target/repair
@@ -13,7 +13,7 @@ static const char *in_words(size_t number)
 {
     switch (number) {
     case ERNAVLUQ_ACCEPTED: return "accepted";
-    case ERNAVLUQ_OUT_OF_RANGE: return "n, the rows, the columns or K lie outside their range";
+    case ERNAVLUQ_OUT_OF_RANGE: return "n, the rows, the columns, K or the target lie outside their range";
     case ERNAVLUQ_WRONG_LENGTH: return "a buffer is not exactly as long as it should be";
     case ERNAVLUQ_BIT_PAST_END: return "a word has a bit past the last column, or a spare bit is 1";
     case ERNAVLUQ_MALFORMED: return "the metadata is not well formed, or a counter is above K";
@@ -69,9 +69,10 @@ static int repair_a_block(void)
     const uint64_t mask[ROWS] = {3, 6, 4};   /* cells 0 and 1 of row 0, 1 and 2 of row 1, 2 of row 2 */
     const uint64_t values[ROWS] = {1, 2, 4}; /* the first of each row is stuck at 1, the others at 0 */
     uint64_t cells[ROWS] = {0}, before[ROWS], out[ROWS];
-    uint8_t counters[ERNAVLUQ_COUNTER_BYTES(ROWS, COLUMNS, K)] = {0};
+    uint8_t counters[ERNAVLUQ_COUNTER_BYTES(ROWS, COLUMNS, K)] = {0}, wide[ERNAVLUQ_COUNTER_BYTES(ROWS, COLUMNS, ERNAVLUQ_MAX_LEVELS)];
+    ernavluq_grid_convert_answer converted;
     ernavluq_grid_answer refused, planned, stored, misread;
-    ernavluq_grid_read_answer read, bad;
+    ernavluq_grid_read_answer read, again, bad;
     int untouched;
 
     refused = ernavluq_grid_plan(ROWS, COLUMNS, K - 1, data, ROWS, mask, ROWS, values, ROWS, counters, sizeof counters);
@@ -91,6 +92,12 @@ static int repair_a_block(void)
     printf("block, read:   %s\n", in_words(read.number));
     print_words("  the data:   ", out, ROWS);
 
+    /* The module goes over to K = 7, for which counters have three bits: the same cells read as before. */
+    converted = ernavluq_grid_convert(ROWS, COLUMNS, K, ERNAVLUQ_MAX_LEVELS, counters, sizeof counters, wide, sizeof wide);
+    printf("to K = 7:      %s; %zu bytes of counters become %zu\n", in_words(converted.number), sizeof counters, sizeof wide);
+    again = ernavluq_grid_read(ROWS, COLUMNS, ERNAVLUQ_MAX_LEVELS, cells, ROWS, wide, sizeof wide, out, ROWS);
+    print_words("  the data:   ", out, ROWS);
+
     /* With the K of another plan: the counters of three levels do not fit K = 2, and the answer says which is the first that is above it. */
     bad = ernavluq_grid_read(ROWS, COLUMNS, K - 1, cells, ROWS, counters, sizeof counters, out, ROWS);
     printf("read, K = 2:   refused with number %zu: counter %zu is above K, that of %s %zu\n", bad.number, bad.index, bad.index < ROWS ? "row" : "column",
@@ -105,6 +112,7 @@ static int repair_a_block(void)
 
     return refused.number == ERNAVLUQ_UNMASKABLE && stored.number == ERNAVLUQ_ACCEPTED
         && read.number == ERNAVLUQ_ACCEPTED && memcmp(out, data, sizeof data) == 0 && misread.number == ERNAVLUQ_MISREAD && untouched
+        && converted.number == ERNAVLUQ_ACCEPTED && again.number == ERNAVLUQ_ACCEPTED
         && bad.number == ERNAVLUQ_MALFORMED && bad.index == 1;
 }
 

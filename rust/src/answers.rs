@@ -48,6 +48,16 @@ pub struct GridReadAnswer {
     pub index: usize,
 }
 
+/// What a conversion of a grid block's counters answers.
+#[repr(C)]
+#[derive(Clone, Copy, Debug, PartialEq, Eq)]
+pub struct GridConvertAnswer {
+    /// 0, or the number of the refusal.
+    pub number: usize,
+    /// With refusal 4 the index of the first counter above K, else 0.
+    pub index: usize,
+}
+
 /// The answer of any call.
 #[derive(Clone, Copy, Debug, PartialEq, Eq)]
 pub enum Answer {
@@ -56,6 +66,7 @@ pub enum Answer {
     GridPlan(GridAnswer),
     GridStore(GridAnswer),
     GridRead(GridReadAnswer),
+    GridConvert(GridConvertAnswer),
 }
 
 impl Answer {
@@ -67,6 +78,7 @@ impl Answer {
             Answer::GridPlan(answer) => answer.number,
             Answer::GridStore(answer) => answer.number,
             Answer::GridRead(answer) => answer.number,
+            Answer::GridConvert(answer) => answer.number,
         }
     }
 }

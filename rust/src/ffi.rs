@@ -1,5 +1,7 @@
 //! The calls of libernavluq.a as include/ernavluq.h declares them: after each pointer its length in elements.
-use crate::answers::{GridAnswer, GridReadAnswer, PointerReadAnswer, PointerWriteAnswer};
+use crate::answers::{
+    GridAnswer, GridConvertAnswer, GridReadAnswer, PointerReadAnswer, PointerWriteAnswer,
+};
 
 extern "C" {
     pub fn ernavluq_pointer_read(
@@ -67,4 +69,15 @@ extern "C" {
         out: *mut u64,
         out_length: usize,
     ) -> GridReadAnswer;
+
+    pub fn ernavluq_grid_convert(
+        rows: usize,
+        columns: usize,
+        k: usize,
+        to: usize,
+        counters: *const u8,
+        counters_length: usize,
+        out: *mut u8,
+        out_length: usize,
+    ) -> GridConvertAnswer;
 }

@@ -31,7 +31,9 @@ mod answers;
 mod ffi;
 mod refusal;
 
-pub use answers::{Answer, GridAnswer, GridReadAnswer, PointerReadAnswer, PointerWriteAnswer};
+pub use answers::{
+    Answer, GridAnswer, GridConvertAnswer, GridReadAnswer, PointerReadAnswer, PointerWriteAnswer,
+};
 pub use refusal::{
     Refusal, BIT_PAST_END, MALFORMED, MISREAD, NO_ENTRY_LEFT, OUT_OF_RANGE, SAME_POINTER,
     UNMASKABLE, WRONG_LENGTH,
@@ -45,9 +47,16 @@ pub const fn metadata_bytes(n: usize) -> usize {
     n.saturating_mul(10).saturating_add(1).div_ceil(8)
 }
 
-/// The bytes of counters of a block: 1 bit for each row and column where `k` is 1, and 2 bits where it is 2 or 3.
+/// No block's counters take more bytes: so many are those of 64 rows and 64 columns where `k` is 4 to 7.
+pub const MAX_COUNTER_BYTES: usize = counter_bytes(64, 64, 7);
+
+/// The bytes of counters of a block: 1 bit for each row and column where `k` is 1, 2 bits where it is 2 or 3, and 3 bits where it is 4 to 7.
 pub const fn counter_bytes(rows: usize, columns: usize, k: usize) -> usize {
-    let width = if k == 1 { 1 } else { 2 };
+    let width = match k {
+        1 => 1,
+        2 | 3 => 2,
+        _ => 3,
+    };
     rows.saturating_add(columns)
         .saturating_mul(width)
         .div_ceil(8)
@@ -68,7 +77,7 @@ fn judged<A: Copy>(answer: A, whole: fn(A) -> Answer) -> Result<A, Refusal> {
 /// let mut out = [0; 64];
 /// let refusal = ernavluq::pointer_read(11, &[0; 64], &[0; 8], &mut out).unwrap_err();
 /// assert_eq!(refusal.number(), ernavluq::OUT_OF_RANGE);
-/// assert_eq!(refusal.to_string(), "refusal 1: n, the rows, the columns or K lie outside their range");
+/// assert_eq!(refusal.to_string(), "refusal 1: n, the rows, the columns, K or the target lie outside their range");
 /// ```
 pub fn pointer_read(
     n: usize,
@@ -254,4 +263,50 @@ pub fn grid_read(
         )
     };
     judged(answer, Answer::GridRead)
+}
+
+/// Converts the `counters` of a block from `k` to `to`, an equal or a larger one: `out` gets the same counters, each with its number, in as many bits as they
+/// have there. Any cells read with `to` and `out` as they read with `k` and `counters`.
+///
+/// ```
+/// # fn main() -> Result<(), ernavluq::Refusal> {
+/// use ernavluq::{counter_bytes, grid_convert, grid_read};
+///
+/// // Rows 2 and 1, columns 1 and 2: two bits each at K = 3, and three at K = 7.
+/// let (counters, mut wide) = ([0x96], [0; counter_bytes(2, 2, 7)]);
+/// grid_convert(2, 2, 3, 7, &counters, &mut wide)?;
+/// assert_eq!(wide, [0x4A, 0x04]);
+/// let (mut before, mut after) = ([0; 2], [0; 2]);
+/// grid_read(2, 2, 3, &[1, 3], &counters, &mut before)?;
+/// grid_read(2, 2, 7, &[1, 3], &wide, &mut after)?;
+/// assert_eq!(before, after);
+///
+/// // There is no way back.
+/// let refusal = grid_convert(2, 2, 7, 3, &wide, &mut [0]).unwrap_err();
+/// assert_eq!(refusal.number(), ernavluq::OUT_OF_RANGE);
+/// # Ok(())
+/// # }
+/// ```
+pub fn grid_convert(
+    rows: usize,
+    columns: usize,
+    k: usize,
+    to: usize,
+    counters: &[u8],
+    out: &mut [u8],
+) -> Result<GridConvertAnswer, Refusal> {
+    // SAFETY: see above.
+    let answer = unsafe {
+        ffi::ernavluq_grid_convert(
+            rows,
+            columns,
+            k,
+            to,
+            counters.as_ptr(),
+            counters.len(),
+            out.as_mut_ptr(),
+            out.len(),
+        )
+    };
+    judged(answer, Answer::GridConvert)
 }

@@ -3,7 +3,7 @@ use crate::answers::Answer;
 use std::error::Error;
 use std::fmt;
 
-/// n, the rows, the columns or K lie outside their range.
+/// n, the rows, the columns, K or the target lie outside their range.
 pub const OUT_OF_RANGE: usize = 1;
 /// A buffer is not exactly as long as it should be.
 pub const WRONG_LENGTH: usize = 2;
@@ -33,12 +33,13 @@ impl Refusal {
         self.answer.number()
     }
 
-    /// The index of the first counter above K, where a store or a read of a block was refused with [`MALFORMED`]. The rows' counters are counted first, from
-    /// 0, and then the columns': of a block of `rows` rows an index below `rows` is that row, and any other is column `index - rows`.
+    /// The index of the first counter above K, where a store, a read or a conversion was refused with [`MALFORMED`]. The rows' counters are counted first,
+    /// from 0, and then the columns': of a block of `rows` rows an index below `rows` is that row, and any other is column `index - rows`.
     pub fn bad_counter(&self) -> Option<usize> {
         match self.answer {
             Answer::GridStore(answer) if answer.number == MALFORMED => Some(answer.index),
             Answer::GridRead(answer) if answer.number == MALFORMED => Some(answer.index),
+            Answer::GridConvert(answer) if answer.number == MALFORMED => Some(answer.index),
             _ => None,
         }
     }
@@ -50,7 +51,7 @@ impl fmt::Display for Refusal {
             return write!(f, "refusal {MALFORMED}: counter {index} is above K");
         }
         let words = match self.number() {
-            OUT_OF_RANGE => "n, the rows, the columns or K lie outside their range",
+            OUT_OF_RANGE => "n, the rows, the columns, K or the target lie outside their range",
             WRONG_LENGTH => "a buffer is not exactly as long as it should be",
             BIT_PAST_END => "a word has a bit past the last column, or a spare bit is 1",
             MALFORMED => "the metadata is not well formed",

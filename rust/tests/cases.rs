@@ -206,7 +206,7 @@ fn g3_to_g9() {
         block(2, 2, 1, &[0x96], &[1, 3])
     );
     assert_eq!(block_number(1, &[3, 2], &[1, 2]), UNMASKABLE);
-    for k in 1..=3 {
+    for k in 1..=7 {
         assert_eq!(block_number(k, &[3, 3], &[1, 2]), UNMASKABLE);
     }
     assert_eq!(
@@ -220,7 +220,7 @@ fn g3_to_g9() {
         block(1, 1, 2, &[0x09], &[2, 0])
     );
     assert_eq!(block_number(0, &[0], &[0]), OUT_OF_RANGE);
-    assert_eq!(block_number(4, &[0], &[0]), OUT_OF_RANGE);
+    assert_eq!(block_number(8, &[0], &[0]), OUT_OF_RANGE);
     assert_eq!(block_number(1, &[2], &[0]), BIT_PAST_END);
     assert_eq!(block_number(1, &[0; 65], &[0; 65]), OUT_OF_RANGE);
     assert_eq!(
@@ -330,7 +330,7 @@ fn a_refusal_speaks() {
         Box::new(grid_read(0, 1, 1, &[], &[], &mut []).unwrap_err());
     assert_eq!(
         refusal.to_string(),
-        "refusal 1: n, the rows, the columns or K lie outside their range"
+        "refusal 1: n, the rows, the columns, K or the target lie outside their range"
     );
     for number in (1..=7).chain([13]) {
         let told = Refusal {
@@ -343,4 +343,47 @@ fn a_refusal_speaks() {
             "{told}"
         );
     }
+}
+
+/// The staircase of seven steps, all data 0: cell (i, i) is stuck at 1 and the one to its right at 0.
+const STAIRS: ([u64; 7], [u64; 7]) = ([3, 6, 12, 24, 48, 96, 64], [1, 2, 4, 8, 16, 32, 64]);
+
+#[test]
+fn seven_levels() {
+    let (mask, values) = STAIRS;
+    let (mut counters, mut cells, mut out) = ([9; 6], [9; 7], [9; 7]);
+    assert_eq!(counter_bytes(7, 7, 7), counters.len());
+    assert_eq!((MAX_COUNTER_BYTES, counter_bytes(64, 64, 4)), (48, 48));
+    let refusal = grid_plan(7, 7, 6, &[0; 7], &mask, &values, &mut counters).unwrap_err();
+    assert_eq!((refusal.number(), counters), (UNMASKABLE, [9; 6]));
+    let planned = grid_plan(7, 7, 7, &[0; 7], &mask, &values, &mut counters);
+    assert_eq!(planned, Ok(accepted(7, 7, 6)));
+    assert_eq!(counters, [0xA2, 0xDF, 0x25, 0xEB, 0x4D, 0x01]);
+    let stored = grid_store(7, 7, 7, &[0; 7], &mask, &values, &counters, &mut cells);
+    assert_eq!((stored, cells), (planned, [1, 3, 7, 15, 31, 63, 127]));
+    assert!(grid_read(7, 7, 7, &cells, &counters, &mut out).is_ok());
+    assert_eq!(out, [0; 7]);
+    // Row 3 is the first that has a 7.
+    let refusal = grid_read(7, 7, 6, &cells, &counters, &mut out).unwrap_err();
+    assert_eq!(refusal.bad_counter(), Some(3));
+}
+
+#[test]
+fn conversions() {
+    let mut out = [9, 9];
+    assert!(grid_convert(2, 3, 3, 4, &[0xE4, 0x01], &mut out).is_ok());
+    assert_eq!(out, [0x88, 0x16]);
+    for (k, to, counters, number, index) in [
+        (4, 3, [0, 0], OUT_OF_RANGE, None),
+        (3, 8, [0, 0], OUT_OF_RANGE, None),
+        (3, 4, [0xE4, 0x05], BIT_PAST_END, None),
+        (2, 4, [0x30, 0x00], MALFORMED, Some(2)),
+        (4, 7, [0x28, 0x0E], MALFORMED, Some(1)),
+    ] {
+        let refusal = grid_convert(2, 3, k, to, &counters, &mut out).unwrap_err();
+        assert_eq!((refusal.number(), refusal.bad_counter()), (number, index));
+        assert_eq!(out, [0x88, 0x16]);
+    }
+    let refusal = grid_convert(2, 2, 3, 4, &[0x96], &mut out[..1]).unwrap_err();
+    assert_eq!(refusal.number(), WRONG_LENGTH);
 }
