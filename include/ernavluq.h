@@ -96,7 +96,7 @@ ernavluq_pointer_write_answer ernavluq_pointer_write(
 #define ERNAVLUQ_MAX_ROWS 64
 #define ERNAVLUQ_MAX_COLUMNS 64
 #define ERNAVLUQ_MAX_LEVELS 7
-/* The bytes of counters, which have 1 bit each for K = 1, 2 bits each for K = 2 and 3, and 3 bits each for K = 4 to 7. */
+/* The bytes of counters, k from 1 to ERNAVLUQ_MAX_LEVELS: they have 1 bit each for K = 1, 2 bits each for K = 2 and 3, and 3 bits each for K = 4 to 7. */
 #define ERNAVLUQ_COUNTER_BYTES(rows, columns, k) ((((rows) + (columns)) * ((k) == 1 ? 1 : (k) <= 3 ? 2 : 3) + 7) / 8)
 /* No block's counters take more: so many bytes are those of 64 rows and 64 columns at K = 4 to 7. */
 #define ERNAVLUQ_MAX_COUNTER_BYTES 48
@@ -152,11 +152,12 @@ ernavluq_grid_read_answer ernavluq_grid_read(
     const uint8_t *counters, size_t counters_length,
     uint64_t *out, size_t out_length);
 
-/* Converts the counters of a block from K to the target, an equal or a larger K. Takes the block's rows and columns (1 to 64 each), K (1 to 7), the target
- * (K to 7) and the counters at K, whoever made them. Accepted, out holds the same counters at the target: each has the same number and stands in its order,
- * in as many bits as counters have at the target, and the spare bits are 0. Any cells read at the target with out as they read at K with counters.
- * counters has ERNAVLUQ_COUNTER_BYTES(rows, columns, k) bytes, out ERNAVLUQ_COUNTER_BYTES(rows, columns, to). Of out only the length counts.
- * Refusals: 1 to 4, and 1 also where the target is smaller than K. */
+/* Converts the counters of a block from K to an equal or a larger one, the target: `to`. Takes the block's rows and columns (1 to 64 each), K (1 to 7), the
+ * target (K to 7) and the counters at K, whoever made them. Accepted, out holds the same counters at the target: each has the same number and stands in its
+ * order, in as many bits as counters have at the target, and the spare bits are 0. Any cells read at the target with out as they read at K with counters.
+ * counters has ERNAVLUQ_COUNTER_BYTES(rows, columns, k) bytes, out ERNAVLUQ_COUNTER_BYTES(rows, columns, to). Of out only the length counts; it may not be
+ * the buffer of the counters, even where it gets the same bytes.
+ * Refusals: 1 to 4; a target smaller than K is 1. */
 ernavluq_grid_convert_answer ernavluq_grid_convert(
     size_t rows, size_t columns, size_t k, size_t to,
     const uint8_t *counters, size_t counters_length,

@@ -9,7 +9,7 @@ use Rattle.bits.specs.Bits.{Below}
 use Rattle.bits.proofs.TestLaws.{and-in}
 use Rattle.rdis.proofs.PackingLaws.{width-holds}
 use Rattle.grid_counters.specs.Promises as bytewise
-use Rattle.grid_counters.specs.declared.Converted.{Converted}
+use Rattle.grid_counters.specs.declared.conversion.Converted.{Converted}
 use Rattle.grid_counters.proofs.PromiseLaws.{is-roomy, can-pack}
 use Rattle.grid_promises.specs.Conversion.{convertInRange, convertSized, convertNumber, ConvertInRange, ConvertLengths, Convert}
 use Rattle.grid_promises.proofs.ConvertLaws.{convert-in-range, convert-sized}

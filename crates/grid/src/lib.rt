@@ -203,7 +203,7 @@ pub fn convert(
     if number != ACCEPTED {
         return ConvertAnswer { number, index: 0 };
     }
-    let c = grid_counters::convert(k, to, rows, columns, counters, out);
+    let c = grid_counters::conversion::convert(k, to, rows, columns, counters, out);
     ConvertAnswer {
         number: c.number,
         index: c.index,

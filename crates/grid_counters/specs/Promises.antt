@@ -10,7 +10,7 @@ use lib.Dec.{eqb, leb, ltb}
 use Rattle.rdis.specs.Packing.{width, bytesFor, inOrder, packed, unpacked, rowCounter, columnCounter, above, firstAbove, spareClear}
 use Rattle.grid_sets.specs.Sets.{setsOf, times}
 use Rattle.grid_counters.specs.declared.Counters.{Counters}
-use Rattle.grid_counters.specs.declared.Converted.{Converted}
+use Rattle.grid_counters.specs.declared.conversion.Converted.{Converted}
 
 -- ---- lengths
 

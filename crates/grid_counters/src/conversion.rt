@@ -1,8 +1,12 @@
-// Counters that are converted: planes of 64 of them, rows and columns alike, from bytes and to bytes of any width, and what is judged of them.
+// Counters from one K to another: planes of 64 of them, rows and columns alike, from bytes and to bytes of any width. No sets of lines are made.
 use crate::fill::fill;
 use crate::judge::Judged;
+use crate::packable;
+use crate::packing::spare_clear;
+use crate::packing::width as width_of;
 use crate::planes::planes_from;
 use crate::planes::thresholds;
+use crate::roomy;
 use crate::threes::Threes;
 use crate::threes::fill_threes;
 use crate::threes::raised;
@@ -11,6 +15,7 @@ use grid_sets::LEVELS;
 use refusals::ACCEPTED;
 use refusals::BIT_PAST_END;
 use refusals::MALFORMED;
+use refusals::WRONG_LENGTH;
 ghost use mathlib.Core.Path.{_≡_};
 ghost use Prim.Native.Nat.{ℕ, _+_, _*_, _%_, _≤_, _<_};
 ghost use lib.Dec.{ltb};
@@ -19,9 +24,16 @@ ghost use Rattle.bits.specs.Bits.{some, first as firstOf};
 ghost use Rattle.rdis.specs.Packing.{counter};
 ghost use Rattle.grid_sets.specs.Sets.{setsOf};
 ghost use Rattle.grid_counters.specs.Steps.{AreThrees, Judges, FillsPlanes};
+ghost use Rattle.grid_counters.specs.Promises.{Convert};
+
+// What a conversion answers: 0 or the number of the refusal, and with refusal 4 the index of the first counter above K.
+pub struct Converted {
+    pub number: usize,
+    pub index: usize,
+}
 
 // The planes of the 64 counters from counter `first` on, with 0 past the end.
-pub fn planes_at(bytes: &[u8], width: usize, first: usize) -> Threes
+fn planes_at(bytes: &[u8], width: usize, first: usize) -> Threes
     requires { ⌜ (0 < width) × (width ≤ 3) × (first % 8 ≡ 0) × (first ≤ 64) ⌝ }
     ensures { λ r. ⌜ AreThrees 64 (λ i. counter width (now (bytes .entry)) (first + i)) r ⌝ }
 {
@@ -35,7 +47,7 @@ pub fn planes_at(bytes: &[u8], width: usize, first: usize) -> Threes
 }
 
 // Stores 128 counters, which have these planes, as far as there are bytes.
-pub fn fill_at(out: &mut [u8], width: usize, a: Threes, b: Threes)
+fn fill_at(out: &mut [u8], width: usize, a: Threes, b: Threes)
     requires { ⌜ (0 < width) × (width ≤ 3) ⌝ }
     ensures { λ _. ⌜ FillsPlanes width a b (now (out .exit)) ⌝ }
 {
@@ -47,7 +59,7 @@ pub fn fill_at(out: &mut [u8], width: usize, a: Threes, b: Threes)
 }
 
 // Which of 64 counters are above K.
-pub fn above(p: Threes, k: usize) -> u64
+fn above(p: Threes, k: usize) -> u64
     ensures { λ r. ⌜ ((f : ℕ → ℕ) → ((t : ℕ) → f t < 8) → AreThrees 64 f p → r ≡ getD (setsOf 64 f) k 0) ⌝ }
 {
     if k >= LEVELS {
@@ -59,7 +71,7 @@ pub fn above(p: Threes, k: usize) -> u64
 }
 
 // The lowest refusal that applies, where these of the first 64 counters are above K, and these of the others.
-pub fn judge_planes(clear: bool, first: u64, second: u64) -> Judged
+fn judge_planes(clear: bool, first: u64, second: u64) -> Judged
     ensures { λ r. ⌜ ((f : ℕ → ℕ) (k : ℕ) → ((t : ℕ) → f t < 8) → first ≡ getD (setsOf 64 f) k 0 → second ≡ getD (setsOf 64 (λ i. f (64 + i))) k 0 → Judges clear (some 128 (λ t. ltb k (f t))) (firstOf 128 (λ t. ltb k (f t))) r) ⌝ }
 {
     if !clear {
@@ -83,5 +95,36 @@ pub fn judge_planes(clear: bool, first: u64, second: u64) -> Judged
     Judged {
         number: ACCEPTED,
         index: 0,
+    }
+}
+
+// Writes the counters that bytes hold at K as bytes at the target `to`, judged.
+pub fn convert(
+    k: usize,
+    to: usize,
+    rows: usize,
+    columns: usize,
+    bytes: &[u8],
+    out: &mut [u8],
+) -> Converted
+    ensures { λ r. ⌜ Convert k to rows columns (now (bytes .entry)) (now (out .entry)) r (now (out .exit)) ⌝ }
+{
+    if !(roomy(k, rows, columns, bytes.len()) & packable(to, rows, columns, k, out.len())) {
+        return Converted {
+            number: WRONG_LENGTH,
+            index: 0,
+        };
+    }
+    let width = width_of(k);
+    let first = planes_at(bytes, width, 0);
+    let second = planes_at(bytes, width, 64);
+    let clear = spare_clear(bytes, width, rows + columns);
+    let j = judge_planes(clear, above(first, k), above(second, k));
+    if j.number == ACCEPTED {
+        fill_at(out, width_of(to), first, second);
+    }
+    Converted {
+        number: j.number,
+        index: j.index,
     }
 }

@@ -1,5 +1,5 @@
-// A block's counters in bytes: how many bytes they take, which counters bytes hold, the bytes of the counters of levels, and those of other bytes' counters.
-mod conversion;
+// A block's counters in bytes: how many bytes they take, which counters bytes hold, the bytes of the counters of levels, and (in conversion) those at another K.
+pub mod conversion;
 mod fill;
 mod judge;
 mod packing;
@@ -9,7 +9,6 @@ mod threes;
 
 use grid_sets::LEVELS;
 use grid_sets::LINES;
-use refusals::ACCEPTED;
 use refusals::WRONG_LENGTH;
 ghost use mathlib.Core.Path.{_≡_};
 ghost use mathlib.Core.Bool.{true};
@@ -17,7 +16,7 @@ ghost use Prim.Native.Nat.{_+_, _≤_, _<_};
 ghost use lib.ListN.{length};
 ghost use Rattle.rdis.specs.Packing.{width as widthOf, bytesFor, inOrder, packed};
 ghost use Rattle.grid_sets.specs.Sets.{times};
-ghost use Rattle.grid_counters.specs.Promises.{fit, roomy as isRoomy, packable as isPackable, Unpack, Pack, Convert};
+ghost use Rattle.grid_counters.specs.Promises.{fit, roomy as isRoomy, packable as isPackable, Unpack, Pack};
 
 // A block has at most so many counters: one for each of 64 rows and 64 columns.
 pub const COUNTERS: usize = 128;
@@ -88,15 +87,15 @@ fn unpack_threes(k: usize, rows: usize, columns: usize, bytes: &[u8]) -> Counter
 {
     let first = threes::threes_from(bytes, 0);
     let second = threes::threes_from(bytes, 24);
-    let r = threes::sets_of_threes(first, second, 0, rows);
-    let c = threes::sets_of_threes(first, second, rows, columns);
+    let row_sets = threes::sets_of_threes(first, second, 0, rows);
+    let column_sets = threes::sets_of_threes(first, second, rows, columns);
     let clear = packing::spare_clear(bytes, 3, rows + columns);
-    let j = judge::judge(clear, &r, &c, k, rows);
+    let j = judge::judge(clear, &row_sets, &column_sets, k, rows);
     Counters {
         number: j.number,
         index: j.index,
-        rows: r,
-        columns: c,
+        rows: row_sets,
+        columns: column_sets,
     }
 }
 
@@ -151,45 +150,4 @@ fn pack_threes(
         threes::first_threes(r, c, rows),
         threes::second_threes(c, rows),
     );
-}
-
-// What a conversion answers: 0 or the number of the refusal, and with refusal 4 the index of the first counter above K.
-pub struct Converted {
-    pub number: usize,
-    pub index: usize,
-}
-
-// Writes the counters that bytes hold at K as bytes at the target `to`, judged. Planes go to bytes as they came from bytes: it makes no sets.
-pub fn convert(
-    k: usize,
-    to: usize,
-    rows: usize,
-    columns: usize,
-    bytes: &[u8],
-    out: &mut [u8],
-) -> Converted
-    ensures { λ r. ⌜ Convert k to rows columns (now (bytes .entry)) (now (out .entry)) r (now (out .exit)) ⌝ }
-{
-    if !(roomy(k, rows, columns, bytes.len()) & packable(to, rows, columns, k, out.len())) {
-        return Converted {
-            number: WRONG_LENGTH,
-            index: 0,
-        };
-    }
-    let width = packing::width(k);
-    let first = conversion::planes_at(bytes, width, 0);
-    let second = conversion::planes_at(bytes, width, 64);
-    let clear = packing::spare_clear(bytes, width, rows + columns);
-    let j = conversion::judge_planes(
-        clear,
-        conversion::above(first, k),
-        conversion::above(second, k),
-    );
-    if j.number == ACCEPTED {
-        conversion::fill_at(out, packing::width(to), first, second);
-    }
-    Converted {
-        number: j.number,
-        index: j.index,
-    }
 }

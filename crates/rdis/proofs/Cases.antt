@@ -57,11 +57,12 @@ pub cases : run G6 3 ∷ run G6 2 ∷ run G5 1 ∷ run G5 2 ∷ run G5 3 ∷ run
 unfolding plan levels taken left takes whole faulty differs bit some sum list has word words xor packed bytesFor width number digits flips holds stored reading faults count ones onesIn
 cases = refl
 
--- G10, 2 by 2 at K = 2: a 3 in row 0; in column 1; in row 1 and in column 0 both; in no line, where every counter is 2; and at K = 3 in every line
+-- G10, 2 by 2 at K = 2: a 3 in row 0; in column 1; in row 1 and in column 0 both; in no line, where every counter is 2; and at K = 3 in every line. Five
+-- counters at K = 4: a 5 before a 7, and a 7 before a 5
 pub first-bad : (firstAbove 2 4 (0x57 ∷ []) ≡ 0) × (firstAbove 2 4 (0xC0 ∷ []) ≡ 3) × (firstAbove 2 4 (0x3C ∷ []) ≡ 1) × (firstAbove 2 4 (0xAA ∷ []) ≡ 4)
-    × (firstAbove 3 4 (0xFF ∷ []) ≡ 4)
+    × (firstAbove 3 4 (0xFF ∷ []) ≡ 4) × (firstAbove 4 5 (0x28 ∷ 0x0E ∷ []) ≡ 1) × (firstAbove 4 5 (0x38 ∷ 0x0A ∷ []) ≡ 1)
 unfolding firstAbove first counter width number
-first-bad = (refl, refl, refl, refl, refl)
+first-bad = (refl, refl, refl, refl, refl, refl, refl)
 
 -- the counters of G6 have 12 bits, and here bit 12 is set
 pub spare : spareClear 2 6 (0x5E ∷ 0x1B ∷ []) ≡ false

@@ -14,8 +14,8 @@ use Rattle.grid_counters.proofs.PackLaws.{width-some, width-few}
 use Rattle.grid_counters.proofs.ThreeLaws.{threes-ext}
 use Rattle.grid_counters.proofs.PromiseLaws.{Room, counter-few}
 use Rattle.grid_counters.proofs.ConvertLaws.{not-convertible, convert-room, convert-refused, convert-done}
-use Rattle.grid_counters.proofs.convert.Statement.{statement}
-use Rattle.grid_counters.proofs.convert.Tie as tie
+use Rattle.grid_counters.proofs.conversion.convert.Statement.{statement}
+use Rattle.grid_counters.proofs.conversion.convert.Tie as tie
 
 -- where the lengths were tested
 abbrev begin : tie.After-packable → tie.Start
