@@ -80,7 +80,7 @@ convert-spec =
     -- above-requires, above-requires-2, judge-planes-requires, width-requires-2
     (λ c κs. search needs) (λ c κs. search needs) (λ c κs. search needs) (λ c κs. search needs)
     -- fill-at-requires
-    (λ c κs. let to = begin (c .before .before .before .before .before .before .before .before .before .before .before .before) .args .to in (omega (arith, c .width2 .ensures, width-some to), omega (arith, c .width2 .ensures, width-few to)))
+    (λ c κs. (rw (c .width2 .ensures) (width-some _), rw (c .width2 .ensures) (width-few _)))
     -- same-length
     (λ c. search needs)
     -- returns-2
