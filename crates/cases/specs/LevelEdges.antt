@@ -2,7 +2,7 @@
 use Prim.Native.Nat.{ℕ}
 use mathlib.Core.List.{List, [], _∷_, _++_}
 use lib.ListN.{replicate}
-use Rattle.cases.specs.Lines.{Line, Call, gridRead, gridPlan, gridStore}
+use Rattle.cases.specs.Lines.{Call, gridRead, gridPlan, gridStore}
 use Rattle.cases.specs.Table.{Row, G2, G3, G6, staircase, staircaseCounters, planned, stores, refused, storeNames, readNames}
 use Rattle.cases.specs.Edges.{shown, cell}
 use Rattle.cases.specs.IndexEdges.{readRefuses}
@@ -18,6 +18,8 @@ abbrev pub levelEdges : List Row
 levelEdges =
     -- G9: K = 0 and K = 8 are out of range, for a plan, a store and a read
     record { call = gridPlan G2 0 (9 ∷ []); expected = refused 1 (9 ∷ []) }
+    ∷ record { call = gridStore G2 0 (0x03 ∷ []) (7 ∷ []); expected = refused 1 (7 ∷ []) }
+    ∷ record { call = gridRead 1 1 0 (1 ∷ []) (0x03 ∷ []) (7 ∷ []); expected = readRefuses 1 (7 ∷ []) }
     ∷ record { call = gridPlan G2 8 (9 ∷ []); expected = refused 1 (9 ∷ []) }
     ∷ record { call = gridStore G2 8 (0x09 ∷ []) (7 ∷ []); expected = refused 1 (7 ∷ []) }
     ∷ record { call = gridRead 1 1 8 (1 ∷ []) (0x09 ∷ []) (7 ∷ []); expected = readRefuses 1 (7 ∷ []) }
@@ -32,11 +34,12 @@ levelEdges =
     -- fifteen bits are counters, and the sixteenth is spare
     ∷ record { call = readFive 7 0x00 0x40; expected = shown (5 ∷ 2 ∷ []) }
     ∷ record { call = readFive 7 0x00 0x80; expected = readRefuses 3 (7 ∷ 8 ∷ []) }
-    -- two bytes, and no more and no fewer: those of two bits each, and of four
+    -- so three counters have two bytes, not the one of two bits each, and five have two, not the three of four bits each; at K = 3 three have one
     ∷ record { call = gridRead 1 2 4 (1 ∷ []) (0 ∷ []) (7 ∷ []); expected = readRefuses 2 (7 ∷ []) }
     ∷ record { call = gridRead 1 2 4 (1 ∷ []) (0 ∷ 0 ∷ []) (7 ∷ []); expected = shown (1 ∷ []) }
     ∷ record { call = gridRead 2 3 4 (5 ∷ 2 ∷ []) (0 ∷ 0 ∷ 0 ∷ []) (7 ∷ 8 ∷ []); expected = readRefuses 2 (7 ∷ 8 ∷ []) }
-    ∷ record { call = gridRead 2 3 3 (5 ∷ 2 ∷ []) (0 ∷ 0 ∷ []) (7 ∷ 8 ∷ []); expected = shown (5 ∷ 2 ∷ []) }
+    ∷ record { call = gridRead 1 2 3 (1 ∷ []) (0 ∷ []) (7 ∷ []); expected = shown (1 ∷ []) }
+    ∷ record { call = gridRead 1 2 3 (1 ∷ []) (0 ∷ 0 ∷ []) (7 ∷ []); expected = readRefuses 2 (7 ∷ []) }
     -- of several counters above K the first is named, and not the greatest: row 1 with 5, column 1 with 7; and the other way round
     ∷ record { call = readFive 4 0x28 0x0E; expected = readNames 1 (7 ∷ 8 ∷ []) }
     ∷ record { call = readFive 4 0x38 0x0A; expected = readNames 1 (7 ∷ 8 ∷ []) }
@@ -56,7 +59,7 @@ levelEdges =
     -- the longest counters have 48 bytes: column 63 of 64 rows, above K = 6
     ∷ record { call = gridRead 64 64 6 (replicate 64 0) (replicate 47 0 ++ (0xE0 ∷ [])) (replicate 64 7); expected = readNames 127 (replicate 64 7) }
     ∷ record { call = gridRead 64 64 6 (replicate 64 0) (replicate 47 0) (replicate 64 7); expected = readRefuses 2 (replicate 64 7) }
-    -- a plan at K = 4 to 7 gives the counters of K = 3, in three bits each, whatever the old ones hold
+    -- a plan from K = 4 on gives the counters of K = 3, in three bits each, whatever the old ones hold: at 4 and at 7
     ∷ record { call = gridPlan G3 4 (0xFF ∷ 0xFF ∷ []); expected = planned 2 3 2 1 (0x4A ∷ 0x04 ∷ []) (2 ∷ 1 ∷ 1 ∷ 2 ∷ []) }
     ∷ record { call = gridPlan G3 7 (9 ∷ 9 ∷ []); expected = planned 2 3 2 1 (0x4A ∷ 0x04 ∷ []) (2 ∷ 1 ∷ 1 ∷ 2 ∷ []) }
     ∷ record { call = gridPlan G3 4 (9 ∷ []); expected = refused 2 (9 ∷ []) }

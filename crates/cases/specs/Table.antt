@@ -9,7 +9,7 @@ use Rattle.grid_promises.specs.Calls.{block}
 use Rattle.pointer_promises.specs.Pointer.{entryOf}
 use Rattle.cases.specs.Lines.{Line, ones, Call, metadata, pointerRead, pointerWrite, gridRead, gridPlan, gridStore}
 
--- a call, and the line that document 01 gives for it
+-- a call, and the line that document 01, or for the last document 02, gives for it
 pub record Row : Type 0 where
   pub call : Call
   pub expected : Line

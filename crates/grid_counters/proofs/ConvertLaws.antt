@@ -34,12 +34,13 @@ pub no-set : (n k : ℕ) (f : ℕ → ℕ) → 8 ≤ k → getD (setsOf n f) k 0
 unfolding setsOf
 no-set n k f h = past-end (words 8 n (λ s i. ltb s (f i))) k (omega (arith, length-words 8 n (λ s i. ltb s (f i))))
 
+-- the first 64 of the counters, and the others
 module _ (k : ℕ) (f : ℕ → ℕ) where
-  abbrev rows : List ℕ
-  rows = setsOf 64 f
+  abbrev low : List ℕ
+  low = setsOf 64 f
 
-  abbrev columns : List ℕ
-  columns = setsOf 64 (λ i. f (64 + i))
+  abbrev upper : List ℕ
+  upper = setsOf 64 (λ i. f (64 + i))
 
   abbrev high : Bool
   high = some 128 (λ t. ltb k (f t))
@@ -51,27 +52,27 @@ module _ (k : ℕ) (f : ℕ → ℕ) where
   set-there n g h = ⊎-elim (λ l. l) (λ l. absurd (h (no-set n k g l))) (lt-or-le k 8)
 
   module _ (clear : Bool) (h : not clear ≡ false) where
-    pub planes-none : ((t : ℕ) → f t < 8) → getD rows k 0 ≡ 0 → getD columns k 0 ≡ 0 → Judges clear high index (record { number = 0; index = 0 })
+    pub planes-none : ((t : ℕ) → f t < 8) → getD low k 0 ≡ 0 → getD upper k 0 ≡ 0 → Judges clear high index (record { number = 0; index = 0 })
     planes-none few r c = none-above clear high index h (⊎-elim
-        (λ l. sym (some-line 64 64 k f l) ∙ rw (eq-eqb (getD rows k 0) 0 r, eq-eqb (getD columns k 0) 0 c))
+        (λ l. sym (some-line 64 64 k f l) ∙ rw (eq-eqb (getD low k 0) 0 r, eq-eqb (getD upper k 0) 0 c))
         (λ l. some-none 128 _ (λ t _. le-ltb k (f t) (omega (arith, few t))))
         (lt-or-le k 8))
 
-    pub planes-first : getD rows k 0 ≢ 0 → Judges clear high index (record { number = 4; index = trailingZeros 64 (getD rows k 0) })
+    pub planes-first : getD low k 0 ≢ 0 → Judges clear high index (record { number = 4; index = trailingZeros 64 (getD low k 0) })
     unfolding firstLine
     planes-first r =
         let l = set-there 64 f r in
-        let found : high ≡ true = sym (some-line 64 64 k f l) ∙ rw (ne-eqb (getD rows k 0) 0 r) in
-        one-above clear high index (trailingZeros 64 (getD rows k 0)) h found
-        (ap (λ t. cond t (64 + trailingZeros 64 (getD columns k 0)) (trailingZeros 64 (getD rows k 0))) (sym (ne-eqb (getD rows k 0) 0 r)) ∙ first-line 64 64 k f l (omega arith) (omega arith) found)
+        let found : high ≡ true = sym (some-line 64 64 k f l) ∙ rw (ne-eqb (getD low k 0) 0 r) in
+        one-above clear high index (trailingZeros 64 (getD low k 0)) h found
+        (ap (λ t. cond t (64 + trailingZeros 64 (getD upper k 0)) (trailingZeros 64 (getD low k 0))) (sym (ne-eqb (getD low k 0) 0 r)) ∙ first-line 64 64 k f l (omega arith) (omega arith) found)
 
-    pub planes-second : getD rows k 0 ≡ 0 → getD columns k 0 ≢ 0 → Judges clear high index (record { number = 4; index = 64 + trailingZeros 64 (getD columns k 0) })
+    pub planes-second : getD low k 0 ≡ 0 → getD upper k 0 ≢ 0 → Judges clear high index (record { number = 4; index = 64 + trailingZeros 64 (getD upper k 0) })
     unfolding firstLine
     planes-second r c =
         let l = set-there 64 (λ i. f (64 + i)) c in
-        let found : high ≡ true = sym (some-line 64 64 k f l) ∙ rw (eq-eqb (getD rows k 0) 0 r, ne-eqb (getD columns k 0) 0 c) in
-        one-above clear high index (64 + trailingZeros 64 (getD columns k 0)) h found
-        (ap (λ t. cond t (64 + trailingZeros 64 (getD columns k 0)) (trailingZeros 64 (getD rows k 0))) (sym (eq-eqb (getD rows k 0) 0 r)) ∙ first-line 64 64 k f l (omega arith) (omega arith) found)
+        let found : high ≡ true = sym (some-line 64 64 k f l) ∙ rw (eq-eqb (getD low k 0) 0 r, ne-eqb (getD upper k 0) 0 c) in
+        one-above clear high index (64 + trailingZeros 64 (getD upper k 0)) h found
+        (ap (λ t. cond t (64 + trailingZeros 64 (getD upper k 0)) (trailingZeros 64 (getD low k 0))) (sym (eq-eqb (getD low k 0) 0 r)) ∙ first-line 64 64 k f l (omega arith) (omega arith) found)
 
 -- ---- lengths
 

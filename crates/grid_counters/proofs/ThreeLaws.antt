@@ -1,7 +1,7 @@
 -- Laws of counters of three bits: their planes from bytes, the sets of their lines, and their planes from sets. Assumes nothing.
 use Prim.Native.Nat.{ℕ, zero, suc, _+_, _-_, _*_, _/_, _%_, _^_, _≤_, _<_}
 use mathlib.Core.Path.{_≡_, refl, sym, ap, ap₂, _∙_}
-use mathlib.Core.Bool.{Bool, true, false, xor, _&&_, _||_}
+use mathlib.Core.Bool.{Bool, false, xor, _&&_, _||_}
 use mathlib.Core.List.{List, [], _∷_}
 use mathlib.Core.Logic.{⊎-elim}
 use native.Mathlib.Nat.{zero-div}
@@ -19,7 +19,7 @@ use Rattle.grid_sets.specs.Sets.{setsOf, times}
 use Rattle.grid_counters.specs.declared.planes.Planes.{Planes}
 use Rattle.grid_counters.specs.declared.threes.Threes.{Threes}
 use Rattle.grid_counters.specs.Steps.{AreBits, AreThrees, FromThirds, FromFour}
-use Rattle.grid_counters.proofs.ShiftLaws.{masked-word, joined, joined-short}
+use Rattle.grid_counters.proofs.ShiftLaws.{joined, joined-short}
 use Rattle.grid_counters.proofs.PlaneLaws.{Bits, from-byte, at-place, bits-as, plane-as}
 use Rattle.grid_counters.proofs.TallyLaws.{added-high, added-next, plane-bit, few-plane}
 

@@ -59,7 +59,7 @@ pub record Pack (k m n used : ℕ) (rows columns before after : List ℕ) : Type
 unfoldable pub convertible : ℕ → ℕ → ℕ → ℕ → ℕ → ℕ → Bool
 convertible k k′ m n bytes out = roomy k m n bytes && packable k′ m n k out
 
--- the refusal of bytes that are to be converted: a wrong length, a spare bit that is set, a counter above K
+-- the refusal of bytes that are to be converted: a wrong length, or a K that the target's bits do not hold; a spare bit that is set; a counter above K
 unfoldable pub convertNumber : ℕ → ℕ → ℕ → ℕ → List ℕ → ℕ → ℕ
 convertNumber k k′ m n bs out =
     cond (not (convertible k k′ m n (length bs) out)) 2 (cond (not (spareClear (width k) (m + n) bs)) 3 (cond (above k (m + n) bs) 4 0))

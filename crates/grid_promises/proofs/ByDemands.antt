@@ -1,20 +1,19 @@
 -- The demands alone say all that the exact part says; so they too leave one answer. Assumes nothing.
 use Prim.Native.Nat.{ℕ, _+_, _-_, _^_, _<_}
-use mathlib.Core.Path.{_≡_, refl, sym, ap, _∙_}
+use mathlib.Core.Path.{_≡_, refl, sym, _∙_}
 use mathlib.Core.Bool.{Bool, true, false, cond}
 use mathlib.Core.List.{List}
-use mathlib.Core.Logic.{⊎-elim}
 use native.Mathlib.Omega.{arith}
 use borrow.Author.Tests.{not-false}
-use lib.ListN.{length, getD}
+use lib.ListN.{length}
 use Rattle.bits.specs.Bits.{most}
-use Rattle.bits.proofs.TestLaws.{false-iff, lt-or-le}
-use Rattle.bits.proofs.BoundLaws.{most-le, most-at, list-getD}
+use Rattle.bits.proofs.TestLaws.{false-iff}
+use Rattle.bits.proofs.BoundLaws.{most-le, most-at}
 use Rattle.bits.proofs.LowestLaws.{lowest-one}
 use Rattle.bits.proofs.ByteLaws.{is-words}
 use Rattle.rdis.specs.Block.{Block, bit, stuck}
 use Rattle.rdis.specs.Cells.{flips, holds, stored, reading}
-use Rattle.rdis.specs.Packing.{width, inOrder, unpacked, counter, rowCounter, columnCounter}
+use Rattle.rdis.specs.Packing.{width, inOrder, counter, rowCounter, columnCounter}
 use Rattle.rdis.specs.Theorems.{Packs}
 use Rattle.rdis.proofs.LevelLaws.{levels-by-chain, one-depth}
 use Rattle.rdis.proofs.TakenLaws.{levels-counted, one-count}

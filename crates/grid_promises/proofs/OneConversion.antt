@@ -1,25 +1,26 @@
 -- The demands of a conversion say all that its exact part says, and both leave one answer; an accepted one leaves every reading as it was. Assumes nothing.
-use Prim.Native.Nat.{ℕ, _+_, _<_}
+use Prim.Native.Nat.{ℕ, _+_, _<_, _≤_}
 use mathlib.Core.Path.{_≡_, refl, sym, ap, _∙_}
 use mathlib.Core.List.{List}
+use native.Mathlib.Omega.{arith}
 use borrow.Author.Tests.{not-false}
 use lib.ListN.{length}
 use Rattle.bits.proofs.TestLaws.{false-iff}
 use Rattle.bits.proofs.BoundLaws.{list-ext}
-use Rattle.bits.proofs.LowestLaws.{lowest-one}
+use Rattle.bits.proofs.LowestLaws.{lowest-one, lowest-is}
 use Rattle.rdis.specs.Packing.{width, unpacked, counter}
 use Rattle.rdis.specs.Theorems.{Packs}
 use Rattle.rdis.proofs.PackingLaws.{packed-only, length-unpacked}
 use Rattle.grid_promises.specs.Calls.{badIndex}
 use Rattle.grid_promises.specs.Demands.{WellFormed}
-use Rattle.grid_promises.specs.Conversion.{convertNumber, ConvertRefused, ConvertDemands, ConvertExactly}
-use Rattle.grid_promises.specs.Conversion.{OneConvert, OneConvertByDemands, ConvertMeasured, ReadsKept}
+use Rattle.grid_promises.specs.Conversion.{convertNumber, ConvertRefused, rangeConvert, lengthConvert, spareConvert, aboveConvert, ConvertDemands, ConvertExactly}
+use Rattle.grid_promises.specs.Conversion.{OneConvert, OneConvertByDemands, SmallerRefused, OutputKeepsLength, ConvertMeasured, ReadsKept}
 use Rattle.grid_promises.specs.declared.ConvertAnswer.{ConvertAnswer}
 use Rattle.grid_promises.proofs.RefusalLaws.{spare-iff, counter-held, held-is}
 use Rattle.grid_promises.proofs.IndexLaws.{names-index}
 use Rattle.grid_promises.proofs.OneAnswer.{either-way}
 use Rattle.grid_promises.proofs.ByDemands.{read-exactly}
-use Rattle.grid_promises.proofs.ConvertLaws.{convert-lowest, convert-fits}
+use Rattle.grid_promises.proofs.ConvertLaws.{convert-lowest, convert-lengths, convert-fits}
 use Rattle.grid_promises.proofs.ConvertDemands.{reads-same}
 
 -- ---- the demands give the exact part
@@ -67,6 +68,23 @@ one-convert m n k k′ counters out a a′ x x′ e f =
 pub one-convert-by-demands : OneConvertByDemands
 one-convert-by-demands m n k k′ counters out a a′ x x′ d e =
     one-convert m n k k′ counters out a a′ x x′ (convert-exactly m n k k′ counters out a x d) (convert-exactly m n k k′ counters out a′ x′ e)
+
+-- ---- a smaller target, and the output's length
+
+pub smaller-refused : SmallerRefused
+smaller-refused m n k k′ counters out a after h d =
+    lowest-is (ConvertRefused m n k k′ counters (length out)) (a .number) 1 (d .lowest) (rangeConvert (λ r. omega (arith, r .larger))) (λ x l p. omega (arith, refused-some x p))
+  where
+    refused-some : (x : ℕ) → ConvertRefused m n k k′ counters (length out) x → 1 ≤ x
+    refused-some x (rangeConvert h) = omega arith
+    refused-some x (lengthConvert h) = omega arith
+    refused-some x (spareConvert h) = omega arith
+    refused-some x (aboveConvert h) = omega arith
+
+pub output-keeps-length : OutputKeepsLength
+output-keeps-length m n k k′ counters out a after d =
+    either-way (a .number) (λ l. ap length (d .untouched l))
+    (λ z. d .wellFormed z .size ∙ sym (convert-lengths m n k k′ counters (length out) (d .lowest .none z) .outBytes))
 
 -- ---- readings
 

@@ -101,6 +101,15 @@ OneConvertByDemands =
     (m n k k′ : ℕ) (counters out : List ℕ) (a a′ : ConvertAnswer) (x x′ : List ℕ)
     → ConvertDemands m n k k′ counters out a x → ConvertDemands m n k k′ counters out a′ x′ → (a ≡ a′) × (x ≡ x′)
 
+-- a smaller target is refusal 1, whatever else holds
+abbrev pub SmallerRefused : Type 0
+SmallerRefused =
+    (m n k k′ : ℕ) (counters out : List ℕ) (a : ConvertAnswer) (after : List ℕ) → k′ < k → ConvertDemands m n k k′ counters out a after → a .number ≡ 1
+
+-- the output has as many bytes as before
+abbrev pub OutputKeepsLength : Type 0
+OutputKeepsLength = (m n k k′ : ℕ) (counters out : List ℕ) (a : ConvertAnswer) (after : List ℕ) → ConvertDemands m n k k′ counters out a after → length after ≡ length out
+
 -- of the output only the length counts
 abbrev pub ConvertMeasured : Type 0
 ConvertMeasured =

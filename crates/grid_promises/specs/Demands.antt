@@ -1,4 +1,4 @@
--- What is demanded of the public functions: facts about the arguments and what is left, a field each. They cite no computed number, no plan and no list of
+-- What is demanded of a read, a plan and a store (of a conversion: Conversion.antt): facts about the arguments and what is left, a field each. They cite no computed number, no plan and no list of
 -- cells or counters, and they alone leave one answer (Theorems.antt). Assumes nothing.
 use Prim.Native.Nat.{ℕ, _+_, _*_, _<_, _≤_}
 use mathlib.Core.Path.{_≡_}
@@ -16,7 +16,7 @@ use Rattle.grid_promises.specs.Refusals.{Spare, Held, Misread, inverted,
 use Rattle.grid_promises.specs.declared.ReadAnswer.{ReadAnswer}
 use Rattle.grid_promises.specs.declared.Answer.{Answer}
 
--- ---- which counter is bad: what a read and a store share
+-- ---- which counter is bad: what a read, a store and a conversion share
 
 -- t is the index of the first of n counters that is above k, by the bits where they stand in the bytes: each before it is at most k
 pub record FirstAbove (k n : ℕ) (bs : List ℕ) (t : ℕ) : Type 0 where

@@ -1,4 +1,5 @@
--- What the public functions promise: how a call ends exactly, by equations that fix its answer and its buffer, and what is demanded of it. Assumes nothing.
+-- What a read, a plan and a store promise (a conversion: Conversion.antt): how a call ends exactly, by equations that fix its answer and its buffer, and what is
+-- demanded of it. Assumes nothing.
 use Prim.Native.Nat.{ℕ, _+_, _<_}
 use mathlib.Core.Path.{_≡_}
 use mathlib.Core.List.{List}

@@ -1,4 +1,5 @@
--- When each numbered refusal applies, said of the arguments themselves and not by the tests that a number is computed from. Assumes nothing.
+-- When each numbered refusal of a read, a plan and a store applies (of a conversion: Conversion.antt), said of the arguments themselves and not by the tests
+-- that a number is computed from. Assumes nothing.
 use Prim.Native.Nat.{ℕ, _+_, _*_, _%_, _^_, _<_, _≤_, min}
 use mathlib.Core.Path.{_≡_}
 use mathlib.Core.Bool.{Bool, true, xor}

@@ -8,11 +8,12 @@ use lib.Dec.{eqb, ltb}
 use lib.ListN.{length}
 use Rattle.bits.specs.Bits.{some, first}
 use Rattle.rdis.specs.Block.{Block, bit, stuck}
-use Rattle.rdis.specs.Cells.{reading}
-use Rattle.rdis.specs.Packing.{bytesFor, counter, rowCounter, columnCounter, spareClear}
+use Rattle.rdis.specs.Levels.{plan}
+use Rattle.rdis.specs.Cells.{stored, reading}
+use Rattle.rdis.specs.Packing.{width, bytesFor, inOrder, packed, counter, rowCounter, columnCounter, spareClear}
 use Rattle.rdis.specs.Theorems.{withValues, oldWidth}
-use Rattle.grid_promises.specs.Calls.{between, past}
-use Rattle.grid_promises.specs.Refusals.{Past}
+use Rattle.grid_promises.specs.Calls.{between, past, rowsOf, columnsOf}
+use Rattle.grid_promises.specs.Refusals.{InRange, Past}
 use Rattle.grid_promises.specs.Demands.{CountsKinds, BoundsLevels, ReadDemands, PlanDemands, StoreDemands}
 use Rattle.grid_promises.specs.Promises.{ReadExactly, Read, PlanExactly, Plan, StoreExactly, Store}
 use Rattle.grid_promises.specs.declared.ReadAnswer.{ReadAnswer}
@@ -112,7 +113,24 @@ StoreIgnoresSound =
     (b : Block) (v : List ℕ) (k : ℕ) (counters cells : List ℕ) (a a′ : Answer) (x x′ : List ℕ)
     → SameWhereStuck b v → Store b k counters cells a x → Store (withValues b v) k counters cells a′ x′ → (a ≡ a′) × (x ≡ x′)
 
--- ---- up to three levels a read is what it was before there were more
+-- ---- seven levels
+
+-- the longest counters have 48 bytes
+abbrev pub LongestCounters : Type 0
+LongestCounters = (m n k : ℕ) → InRange m n k → bytesFor (width k) (m + n) ≤ 48
+
+-- ---- up to three levels plans and stores leave what they left before there were more, and a read is what it was
+
+-- a plan's bytes, and a store's cells, by counters of the old width
+abbrev pub OldPlanKept : Type 0
+OldPlanKept =
+    (b : Block) (k : ℕ) (counters : List ℕ) (a : Answer) (x : List ℕ) → k ≤ 3 → PlanExactly b k counters a x → a .number ≡ 0
+    → x ≡ packed (oldWidth k) (inOrder (b .rows) (b .columns) (rowsOf (plan b k)) (columnsOf (plan b k)))
+
+abbrev pub OldStoreKept : Type 0
+OldStoreKept =
+    (b : Block) (k : ℕ) (counters cells : List ℕ) (a : Answer) (x : List ℕ) → k ≤ 3 → StoreExactly b k counters cells a x → a .number ≡ 0
+    → x ≡ stored b (rowCounter (oldWidth k) counters) (columnCounter (oldWidth k) (b .rows) counters)
 
 -- its number then: K from 1 to 3, and counters of the old width
 abbrev pub oldReadNumber : ℕ → ℕ → ℕ → List ℕ → List ℕ → ℕ → ℕ

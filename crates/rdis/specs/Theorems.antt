@@ -154,7 +154,7 @@ pub record AsBefore (k : ℕ) : Type 0 where
 abbrev pub OldWidthKept : Type 0
 OldWidthKept = (k : ℕ) → k ≤ 3 → AsBefore k
 
--- from four to seven levels a counter has three bits
+-- from four levels on, of which seven is the last, a counter has three bits
 abbrev pub ThreeBits : Type 0
 ThreeBits = (k : ℕ) → 4 ≤ k → width k ≡ 3
 

@@ -1,6 +1,5 @@
 use borrow.Author.Needs.{needs}
 use native.Mathlib.Omega.{arith}
-use mathlib.Core.Path.{_∙_}
 use Rattle.rdis.proofs.PackingLaws.{in-order-below}
 use Rattle.grid_sets.specs.Sets.{times}
 use Rattle.grid_counters.proofs.PromiseLaws.{times-few}

@@ -1,6 +1,6 @@
 use borrow.Author.Needs.{needs}
 use native.Mathlib.Omega.{arith}
-use mathlib.Core.Path.{_≡_, sym, subst}
+use mathlib.Core.Path.{sym, subst}
 use Prim.Native.Nat.{_+_}
 use Rattle.rdis.specs.Packing.{counter}
 use Rattle.grid_counters.specs.Steps.{AreThrees}
