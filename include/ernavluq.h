@@ -35,7 +35,7 @@ enum ernavluq_refusal {
     ERNAVLUQ_MALFORMED = 4,     /* the metadata of a row is not well formed, or a counter is above K */
     ERNAVLUQ_SAME_POINTER = 5,  /* two active entries hold the same pointer */
     ERNAVLUQ_NO_ENTRY_LEFT = 6, /* the kept entries of a row and those it still needs are together more than n */
-    ERNAVLUQ_UNMASKABLE = 7,    /* the faults of a block cannot be masked for this data */
+    ERNAVLUQ_UNMASKABLE = 7,    /* K levels do not mask the faults of a block for this data */
     ERNAVLUQ_MISREAD = 13       /* by the counters that a store is lent, a stuck cell would read wrong */
 };
 
@@ -87,7 +87,7 @@ ernavluq_pointer_write_answer ernavluq_pointer_write(
  *
  * Data, mask, values, cells and output have one word a row: bit j is column j. A mask bit of 1 says that the cell is stuck; the value bit says at what,
  * and is ignored where the cell is sound, except past the last column, where every bit that is read has to be 0. K is not stored with the counters: a
- * store and a read are given the K of the plan.
+ * store and a read are given the K of the plan, or, with converted counters, the target of the conversion.
  *
  * A store, a read or a conversion that finds a counter above K answers refusal 4, if no lower refusal applies, and says which: the index counts the counters
  * from 0 as they stand in the bytes, the rows first and then the columns. An index below rows is that row, and an index of rows or more is column

@@ -36,10 +36,10 @@ module _ (m n k k′ : ℕ) (counters out : List ℕ) (a : ConvertAnswer) (after
     formed : WellFormed (width k′) (m + n) after
     formed = subst (WellFormed (width k′) (m + n)) (sym (e .bytesAre z)) (convert-formed m n k k′ counters (length out) none)
 
-    same : (t : ℕ) → t < m + n → counter (width k′) after t ≡ counter (width k) counters t
+    pub same : (t : ℕ) → t < m + n → counter (width k′) after t ≡ counter (width k) counters t
     same t l = ap (λ bs. counter (width k′) bs t) (e .bytesAre z) ∙ convert-same m n k k′ counters (length out) none t l
 
-    before-readable : Readable m n k counters
+    pub before-readable : Readable m n k counters
     before-readable = record {
       range = convert-range m n k k′ counters (length out) none .before;
       size = convert-lengths m n k k′ counters (length out) none .counterBytes;
@@ -47,7 +47,7 @@ module _ (m n k k′ : ℕ) (counters out : List ℕ) (a : ConvertAnswer) (after
       few = convert-few m n k k′ counters (length out) none;
     }
 
-    after-readable : Readable m n k′ after
+    pub after-readable : Readable m n k′ after
     after-readable = record {
       range = convert-range m n k k′ counters (length out) none .after;
       size = formed .size;

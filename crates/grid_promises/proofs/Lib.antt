@@ -12,6 +12,7 @@ pub mod ConvertLaws
 pub mod SameReads
 pub mod ConvertDemands
 pub mod OneConversion
+pub mod AfterConversion
 pub mod PlanThenConvert
 pub mod OldReads
 pub mod ConvertEdges

@@ -69,7 +69,7 @@ module _ (a a′ : Answer) (old old₀ x x′ : List ℕ) (same : a .number ≡ 
   same-measured : (a ≡ a′) × (a .number ≡ 0 → x ≡ x′)
   same-measured = (one-answer, λ z. accepted z .1)
 
-  same-end : old ≡ old₀ → (a ≡ a′) × (x ≡ x′)
+  pub same-end : old ≡ old₀ → (a ≡ a′) × (x ≡ x′)
   same-end h = (one-answer, either-way (a .number) (λ l. u l .1 ∙ h ∙ sym (u′ (rw (← same) l) .1)) (λ z. accepted z .1))
 
 -- the block itself

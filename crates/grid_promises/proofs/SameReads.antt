@@ -25,7 +25,7 @@ pub record Readable (m n k : ℕ) (bs : List ℕ) : Type 0 where
   pub few : (t : ℕ) → t < m + n → counter (width k) bs t ≤ k
 
 module _ (m n k : ℕ) (bs : List ℕ) (s : Readable m n k bs) where
-  none-above : above k (m + n) bs ≡ false
+  pub none-above : above k (m + n) bs ≡ false
   none-above = false-iff _ (above-iff (m + n) k bs) (λ (t, l, (x, held, h)). omega (arith, s .few t l, held-is (width k) t x bs held))
 
   -- so a read by them names none

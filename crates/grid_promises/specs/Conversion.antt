@@ -11,7 +11,7 @@ use Rattle.rdis.specs.Block.{Block}
 use Rattle.rdis.specs.Packing.{width, bytesFor, packed, unpacked, above, spareClear}
 use Rattle.grid_promises.specs.Calls.{inRange, countersSized, badIndex}
 use Rattle.grid_promises.specs.Refusals.{InRange, Spare, Held, Above}
-use Rattle.grid_promises.specs.Demands.{Names, WellFormed, ReadDemands, PlanDemands}
+use Rattle.grid_promises.specs.Demands.{Names, WellFormed, ReadDemands, PlanDemands, StoreDemands}
 use Rattle.grid_promises.specs.Promises.{Read}
 use Rattle.grid_promises.specs.declared.ConvertAnswer.{ConvertAnswer}
 use Rattle.grid_promises.specs.declared.ReadAnswer.{ReadAnswer}
@@ -116,13 +116,25 @@ ConvertMeasured =
     (m n k k′ : ℕ) (counters out out′ : List ℕ) (a a′ : ConvertAnswer) (x x′ : List ℕ)
     → length out ≡ length out′ → Convert m n k k′ counters out a x → Convert m n k k′ counters out′ a′ x′ → (a ≡ a′) × (a .number ≡ 0 → x ≡ x′)
 
--- ---- readings, by the demands alone
+-- ---- readings, stores and further conversions, by the demands alone
 
 -- an accepted conversion leaves every reading as it was
 abbrev pub ReadsKept : Type 0
 ReadsKept =
     (m n k k′ : ℕ) (counters out after : List ℕ) (a : ConvertAnswer) → ConvertDemands m n k k′ counters out a after → a .number ≡ 0
     → (cells o : List ℕ) (r r′ : ReadAnswer) (x x′ : List ℕ) → ReadDemands m n k cells counters o r x → ReadDemands m n k′ cells after o r′ x′ → (r ≡ r′) × (x ≡ x′)
+
+-- and every store: the same number, the same counts and the same cells
+abbrev pub StoresKept : Type 0
+StoresKept =
+    (b : Block) (k k′ : ℕ) (counters out after : List ℕ) (a : ConvertAnswer) → ConvertDemands (b .rows) (b .columns) k k′ counters out a after → a .number ≡ 0
+    → (cells : List ℕ) (s s′ : Answer) (x x′ : List ℕ) → StoreDemands b k counters cells s x → StoreDemands b k′ after cells s′ x′ → (s ≡ s′) × (x ≡ x′)
+
+-- an accepted conversion to k′, and one from there to k″, leave what one to k″ leaves
+abbrev pub ConvertTwice : Type 0
+ConvertTwice =
+    (m n k k′ k″ : ℕ) (counters mid after out : List ℕ) (a c c′ : ConvertAnswer) (x x′ : List ℕ) → k′ ≤ k″ → ConvertDemands m n k k′ counters mid a after → a .number ≡ 0
+    → ConvertDemands m n k′ k″ after out c x → ConvertDemands m n k k″ counters out c′ x′ → (c ≡ c′) × (x ≡ x′)
 
 -- ---- a plan, then a conversion
 

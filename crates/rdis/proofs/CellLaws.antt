@@ -50,6 +50,13 @@ misreads-ext b r c r′ c′ x y =
     some-ext (b .rows) _ _ (λ i p. some-ext (b .columns) _ _ (λ j q.
     ap (λ t. stuck b i j && xor (xor t (bit (b .values) i j)) (bit (b .data·) i j)) (flips-ext (b .rows) (b .columns) r c r′ c′ x y i j p q)))
 
+-- and what the cells hold
+pub stored-ext : (b : Block) (r c r′ c′ : ℕ → ℕ) → ((i : ℕ) → i < b .rows → r i ≡ r′ i) → ((j : ℕ) → j < b .columns → c j ≡ c′ j) → stored b r c ≡ stored b r′ c′
+unfolding stored holds
+stored-ext b r c r′ c′ x y =
+    words-ext (b .rows) (b .columns) _ _ (λ i j p q.
+    ap (λ t. cond (stuck b i j) (bit (b .values) i j) (xor t (bit (b .data·) i j))) (flips-ext (b .rows) (b .columns) r c r′ c′ x y i j p q))
+
 -- ---- read-back
 
 -- a stuck cell does not read wrong exactly where its value, inverted, is its data bit; a sound cell always reads as its data bit
