@@ -57,3 +57,7 @@ module _ (k n : ℕ) (bs : List ℕ) where
 
     pub names-index : Names k n bs number index → index ≡ badIndex k n bs number
     names-index s = index-is (λ z. is-first-above index (s .first z)) (s .none)
+
+    -- where no counter is above k, none is named
+    pub names-none : Names k n bs number index → (Above k n bs → ⊥) → index ≡ 0
+    names-none s h = s .none (λ z. let f = s .first z in h (index, f .inside, f .above))

@@ -6,11 +6,11 @@ use mathlib.Core.List.{List}
 use mathlib.Core.Logic.{_≢_}
 use native.Mathlib.Omega.{arith}
 use lib.ListN.{length}
-use Rattle.bits.proofs.TestLaws.{false-iff, iff-false}
+use Rattle.bits.proofs.TestLaws.{false-iff}
 use Rattle.rdis.specs.Packing.{width, bytesFor, counter, rowCounter, columnCounter, spareClear, above}
 use Rattle.rdis.proofs.CellLaws.{reading-ext}
 use Rattle.grid_promises.specs.Calls.{readNumber}
-use Rattle.grid_promises.specs.Refusals.{InRange, ReadRefused}
+use Rattle.grid_promises.specs.Refusals.{InRange, Above, ReadRefused}
 use Rattle.grid_promises.specs.Promises.{ReadExactly}
 use Rattle.grid_promises.specs.declared.ReadAnswer.{ReadAnswer}
 use Rattle.grid_promises.proofs.RefusalLaws.{in-range, counters-sized, above-iff, held-is, read-4, read-lowest}
@@ -25,14 +25,17 @@ pub record Readable (m n k : ℕ) (bs : List ℕ) : Type 0 where
   pub few : (t : ℕ) → t < m + n → counter (width k) bs t ≤ k
 
 module _ (m n k : ℕ) (bs : List ℕ) (s : Readable m n k bs) where
+  pub no-above : Above k (m + n) bs → ⊥
+  no-above (t, l, (x, held, h)) = omega (arith, s .few t l, held-is (width k) t x bs held)
+
   pub none-above : above k (m + n) bs ≡ false
-  none-above = false-iff _ (above-iff (m + n) k bs) (λ (t, l, (x, held, h)). omega (arith, s .few t l, held-is (width k) t x bs held))
+  none-above = false-iff _ (above-iff (m + n) k bs) no-above
 
   -- so a read by them names none
   no-four : (cells : List ℕ) (out : ℕ) → readNumber m n k cells bs out ≢ 4
   no-four cells out z =
       let four = subst (ReadRefused m n k cells bs out) z (read-lowest m n k cells bs out .applies (omega arith)) in
-      iff-false _ (above-iff (m + n) k bs) none-above (read-4 m n k cells bs out four)
+      no-above (read-4 m n k cells bs out four)
 
   index-none : (cells out : List ℕ) (a : ReadAnswer) (x : List ℕ) → ReadExactly m n k cells bs out a x → a .index ≡ 0
   index-none cells out a x e = e .indexIs ∙ no-index k (m + n) bs (a .number) (λ z. no-four cells (length out) (sym (e .number) ∙ z))
