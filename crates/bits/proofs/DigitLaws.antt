@@ -2,9 +2,9 @@
 use mathlib.Core.Path.{_≡_, refl, sym, ap, ap₂, _∙_}
 use mathlib.Core.List.{List, [], _∷_, _++_}
 use Prim.Native.Nat.{ℕ, zero, suc, _+_, _*_, _/_, _%_, _^_, _<_}
-use native.Mathlib.Nat.{pow-zero, pow-suc, pow-succ', div-one, zero-div, mod-lt, mul-zero, mul-suc, div-add-mod', div-lt-iff-lt-mul, div-div-eq-div-mul, zero-mul, div-add-mod}
+use native.Mathlib.Nat.{pow-zero, pow-suc, pow-succ', div-one, zero-div, mod-lt, mul-zero, mul-one, mul-suc, mul-assoc, add-mul, div-add-mod', div-lt-iff-lt-mul, div-div-eq-div-mul, zero-mul, div-add-mod}
 use native.Mathlib.Omega.{arith}
-use lib.ListN.{length, getD, drop}
+use lib.ListN.{length, getD, take, drop}
 use lib.Arith.{digits-lt, digits-div, digits-mod}
 use lib.Pow.{pow-pos, pow-add}
 use lib.Dec.{lit<}
@@ -70,6 +70,14 @@ number-step b zero [] = omega (arith, zero-mul b)
 number-step b (suc q) [] = omega (arith, zero-mul b)
 number-step b zero (d ∷ ds) = refl
 number-step b (suc q) (d ∷ ds) = number-step b q ds
+
+-- the digits before digit j and digit j, also past the end
+pub number-take : (b j : ℕ) (ds : List ℕ) → number b (take (suc j) ds) ≡ number b (take j ds) + getD ds j 0 * b ^ j
+unfolding number
+number-take b zero [] = omega (arith, zero-mul (b ^ 0))
+number-take b (suc j) [] = omega (arith, zero-mul (b ^ suc j))
+number-take b zero (d ∷ ds) = omega (arith, zero-mul b, rw (← pow-zero b) at (mul-one d))
+number-take b (suc j) (d ∷ ds) = rw (number-take b j ds, add-mul, pow-suc, mul-assoc) (omega arith)
 
 pub digit-at : (b q : ℕ) (ds : List ℕ) → Below b ds → number b ds / b ^ q % b ≡ getD ds q 0
 digit-at b q ds h = ap (λ m. m % b) (number-drop b q ds h ∙ number-step b q ds) ∙ digits-mod (number b (drop (suc q) ds)) (h q)

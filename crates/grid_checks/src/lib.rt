@@ -20,7 +20,7 @@ fn is_between(first: usize, last: usize, x: usize) -> bool
 }
 
 // The rows, the columns and K lie in their ranges.
-fn in_range(rows: usize, columns: usize, k: usize) -> bool
+pub fn in_range(rows: usize, columns: usize, k: usize) -> bool
     ensures { λ r. ⌜ r ≡ inRange rows columns k ⌝ }
 {
     is_between(1, LINES, rows) & (is_between(1, LINES, columns) & is_between(1, MOST_LEVELS, k))

@@ -5,13 +5,11 @@ use mathlib.Core.List.{List, [], _∷_}
 use Prim.Native.Nat.{ℕ, zero, suc, _+_, _*_, _/_, _%_, _^_, _-_, _<_, _≤_}
 use native.Mathlib.Nat.{pow-zero, pow-suc, div-lt-iff-lt-mul, mul-le-mul, mul-assoc, mul-add-mod-self-right, zero-mul, add-mul, one-mul, div-eq-of-lt, mul-one, div-add-mod}
 use native.Mathlib.Omega.{arith}
-use native.Mathlib.Numerals.{add-one}
 use native.Mathlib.Decide.{decLt}
 use borrow.Author.Tests.{eq-eqb, ne-eqb, lt-ltb, le-ltb}
 use lib.Dec.{eqb, leb, ltb}
 use lib.ListN.{length, getD, take, drop, drop-of-length-le}
 use lib.Pow.{pow-pos, pow-add, shr-shr, field}
-use lib.Seq.{getD-drop}
 use Rattle.bits.specs.Bits.{number, Below}
 use Rattle.bits.proofs.DigitLaws.{number-drop, number-step, pow-mul}
 use Rattle.rdis.specs.Packing.{width, bytesFor, spareClear}
@@ -60,13 +58,6 @@ from-digit a p ds h =
     ∙ sym (shr-shr (number (2 ^ a) ds) (a * (p / a)) (p % a))
     ∙ ap (λ m. m / 2 ^ (p % a)) (ap (λ m. number (2 ^ a) ds / m) (sym (pow-mul a (p / a))) ∙ number-drop (2 ^ a) (p / a) ds h)
 
-number-take : (b j : ℕ) (ds : List ℕ) → number b (take (suc j) ds) ≡ number b (take j ds) + getD ds j 0 * b ^ j
-unfolding number
-number-take b zero [] = omega (arith, zero-mul (b ^ 0))
-number-take b (suc j) [] = omega (arith, zero-mul (b ^ suc j))
-number-take b zero (d ∷ ds) = omega (arith, zero-mul b, rw (← pow-zero b) at (mul-one d))
-number-take b (suc j) (d ∷ ds) = rw (number-take b j ds, add-mul, pow-suc, mul-assoc) (omega arith)
-
 number-split : (b j : ℕ) (ds : List ℕ) → number b ds ≡ number b (drop j ds) * b ^ j + number b (take j ds)
 unfolding number
 number-split b zero ds = omega (arith, rw (← pow-zero b) at (mul-one (number b ds)))
@@ -80,10 +71,6 @@ window a p k j ds h l =
     sym
     (ap (λ m. m % 2 ^ k) (from-digit a p ds h ∙ ap (λ m. m / 2 ^ (p % a)) (number-split (2 ^ a) j (drop (p / a) ds) ∙ rw pow-mul))
     ∙ field-low (number (2 ^ a) (drop j (drop (p / a) ds))) (number (2 ^ a) (take j (drop (p / a) ds))) (a * j) k (p % a) (omega arith))
-
-pub window-more : (a q j v r : ℕ) (ds : List ℕ) → v ≡ number (2 ^ a) (take j (drop q ds)) → r ≡ getD ds (q + j) 0 * 2 ^ (a * j)
-    → v + r ≡ number (2 ^ a) (take (j + 1) (drop q ds))
-window-more a q j v r ds hv hr = rw (add-one, number-take, hv, hr, getD-drop, pow-mul)
 
 -- ---- the spare bits
 

@@ -4,63 +4,34 @@ use mathlib.Core.Path.{_≡_, refl, sym, ap, ap₂, _∙_}
 use mathlib.Core.Bool.{Bool, true, false, _&&_, _||_, or-false}
 use mathlib.Core.List.{List, [], _∷_}
 use mathlib.Core.Logic.{⊎-elim}
-use native.Mathlib.Nat.{div-one, mod-lt, mod-eq-of-lt, mul-suc}
+use native.Mathlib.Nat.{div-one, mod-lt, mod-eq-of-lt}
 use native.Mathlib.Omega.{arith}
 use borrow.Author.Tests.{le-ltb}
-use lib.Arith.{digits-lt}
-use lib.Bits.{bitAnd, bitOr, or-lt, and-lt, or-shifted}
+use lib.Bits.{bitAnd, bitOr, or-lt, and-lt}
 use lib.Dec.{ltb, lit<, lit≤}
-use lib.ListN.{length, getD, take, drop, length-drop}
-use lib.Pow.{pow-pos, pow-add, shl-exact}
-use lib.Seq.{take-all, getD-drop}
+use lib.ListN.{take, drop}
+use lib.Pow.{pow-pos}
 use Rattle.bits.specs.Bits.{num, list, number, has, word, words, Below}
 use Rattle.bits.proofs.TestLaws.{lt-or-le}
 use Rattle.bits.proofs.BitLaws.{has-and, has-or, has-zero, has-low, has-high, has-shr, has-word, is-word, word-lt, word-ext, word-narrow}
 use Rattle.bits.proofs.ByteLaws.{words-ext}
+use Rattle.words.proofs.LoadLaws.{bytes-small}
 use Rattle.rdis.specs.Packing.{counter}
 use Rattle.grid_sets.specs.Sets.{setsOf}
 use Rattle.grid_counters.specs.declared.planes.Planes.{Planes}
 use Rattle.grid_counters.specs.Steps.{AreBits}
 use Rattle.grid_counters.proofs.ShiftLaws.{moved-low, moved-high, masked-word, joined}
-use Rattle.grid_counters.proofs.PackLaws.{window, window-more}
+use Rattle.grid_counters.proofs.PackLaws.{window}
 
 -- ---- eight bytes
 
-pub lifted : (x at : ℕ) → x < 256 → at ≤ 56 → x * 2 ^ at % 2 ^ 64 ≡ x * 2 ^ at
-lifted x at h l = shl-exact 8 at 64 h (omega arith)
-
-small : (j : ℕ) (ds : List ℕ) → Below 256 ds → number 256 (take j ds) < 2 ^ (8 * j)
-unfolding number
-small zero ds h = pow-pos (8 * 0)
-small (suc j) [] h = pow-pos (8 * suc j)
-small (suc j) (d ∷ ds) h = rw (mul-suc 8 j, pow-add 2 (8 * j) 8) (digits-lt (small j ds (λ i. h (suc i))) (h 0))
-
-dropped : (q : ℕ) (bs : List ℕ) → Below 256 bs → Below 256 (drop q bs)
-dropped q bs h i = rw getD-drop (h (q + i))
-
-pub join-more : (q j v x : ℕ) (bs : List ℕ) → Below 256 bs → v ≡ number 256 (take j (drop q bs)) → x ≡ getD bs (q + j) 0 * 2 ^ (8 * j)
-    → bitOr x v ≡ number 256 (take (j + 1) (drop q bs))
-join-more q j v x bs h e f =
-    let l : v < 2 ^ (8 * j) = rw e (small j (drop q bs) (dropped q bs h)) in
-    let s = window-more 8 q j v x bs e f in
-    ap (λ y. bitOr y v) f ∙ or-shifted (getD bs (q + j) 0) (8 * j) v l ∙ ap (λ y. y + v) (sym f) ∙ omega (arith, s)
-
--- eight bytes, or all that are left, are the 64 bits from there on
+-- they are the 64 bits from there on
 pub loaded : (q : ℕ) (bs : List ℕ) → Below 256 bs → number 256 (take 8 (drop q bs)) ≡ number 256 bs / 2 ^ (8 * q) % 2 ^ 64
 loaded q bs h =
     let here : 8 * q / 8 ≡ q = omega arith in
     let edge : 8 * q % 8 ≡ 0 = omega arith in
-    let few : number 256 (take 8 (drop q bs)) < 2 ^ 64 = small 8 (drop q bs) (dropped q bs h) in
+    let few : number 256 (take 8 (drop q bs)) < 2 ^ 64 = bytes-small q 8 bs h in
     sym (mod-eq-of-lt few) ∙ ap (λ x. x % 2 ^ 64) (sym (div-one (number 256 (take 8 (drop q bs))))) ∙ rw (here, edge) at (window 8 (8 * q) 64 8 bs h (omega arith))
-
-pub all-left : (q n : ℕ) (bs : List ℕ) → Below 256 bs → length bs ≤ q + n → n ≤ 8 → number 256 (take n (drop q bs)) ≡ number 256 bs / 2 ^ (8 * q) % 2 ^ 64
-all-left q n bs b h l =
-    let few : length (drop q bs) ≤ n = rw length-drop (omega arith) in
-    ap (number 256) (take-all n (drop q bs) few ∙ sym (take-all 8 (drop q bs) (omega arith))) ∙ loaded q bs b
-
-pub none-left : (q : ℕ) (bs : List ℕ) → Below 256 bs → length bs ≤ q → 0 ≡ number 256 bs / 2 ^ (8 * q) % 2 ^ 64
-unfolding number
-none-left q bs b h = all-left q 0 bs b (omega arith) (omega arith)
 
 -- bit j of them
 bit-loaded : (q j : ℕ) (x : ℕ) → j < 64 → has (x / 2 ^ (8 * q) % 2 ^ 64) j ≡ has x (8 * q + j)

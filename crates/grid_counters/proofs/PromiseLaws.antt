@@ -6,7 +6,7 @@ use mathlib.Core.List.{List}
 use mathlib.Core.Logic.{_≢_, ⊎-elim}
 use native.Mathlib.Nat.{mod-lt, lt-of-lt-of-le}
 use native.Mathlib.Omega.{arith}
-use borrow.Author.Tests.{leb-true, ltb-true, eqb-true, eq-eqb, le-leb, lt-leb, lt-ltb, le-ltb, ltb-false}
+use borrow.Author.Tests.{leb-true, ltb-true, eqb-true, eq-eqb, le-leb, lt-ltb, le-ltb, ltb-false}
 use lib.Dec.{eqb, leb, ltb}
 use lib.ListN.{length, getD, replicate}
 use lib.Pow.{pow-pos, pow-mono}
@@ -24,11 +24,16 @@ use Rattle.grid_counters.specs.Promises.{fit, roomy, unpackNumber, Unpac
 
 -- ---- lengths
 
-pub fit-many : (k n bytes : ℕ) → 128 < n → false ≡ fit k n bytes
+-- the length is the right one where there are not too many counters
+pub fit-by : (k n bytes : ℕ) → leb n 128 && eqb bytes (cond (leb n 128) (bytesFor (width k) n) 0) ≡ fit k n bytes
 unfolding fit
-fit-many k n bytes h = rw (lt-leb n 128 h)
+fit-by k n bytes = go (leb n 128)
+  where
+    go : (b : Bool) → b && eqb bytes (cond b (bytesFor (width k) n) 0) ≡ b && eqb bytes (bytesFor (width k) n)
+    go true = refl
+    go false = refl
 
-pub fit-few : (k n bytes : ℕ) → n ≤ 128 → eqb bytes (bytesFor (width k) n) ≡ fit k n bytes
+fit-few : (k n bytes : ℕ) → n ≤ 128 → eqb bytes (bytesFor (width k) n) ≡ fit k n bytes
 unfolding fit
 fit-few k n bytes h = rw (le-leb n 128 h)
 

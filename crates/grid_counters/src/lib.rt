@@ -11,8 +11,9 @@ use grid_sets::LEVELS;
 use grid_sets::LINES;
 use refusals::WRONG_LENGTH;
 ghost use mathlib.Core.Path.{_≡_};
-ghost use mathlib.Core.Bool.{true};
+ghost use mathlib.Core.Bool.{true, cond};
 ghost use Prim.Native.Nat.{_+_, _≤_, _<_};
+ghost use lib.Dec.{leb};
 ghost use lib.ListN.{length};
 ghost use Rattle.rdis.specs.Packing.{width as widthOf, bytesFor, inOrder, packed};
 ghost use Rattle.grid_sets.specs.Sets.{times};
@@ -30,14 +31,21 @@ pub struct Counters {
     pub columns: [u64; LEVELS],
 }
 
-// Whether so many bytes are what `count` counters take. Their number is tested first: the bits of more might overflow.
+// How many bytes `count` counters take, and 0 for more than a block has: their bits might overflow.
+pub fn bytes_of(k: usize, count: usize) -> usize
+    ensures { λ r. ⌜ r ≡ cond (leb count 128) (bytesFor (widthOf k) count) 0 ⌝ }
+{
+    if count > COUNTERS {
+        return 0;
+    }
+    packing::bytes_for(packing::width(k), count)
+}
+
+// Whether so many bytes are what `count` counters take.
 pub fn fits(k: usize, count: usize, bytes: usize) -> bool
     ensures { λ r. ⌜ r ≡ fit k count bytes ⌝ }
 {
-    if count > COUNTERS {
-        return false;
-    }
-    bytes == packing::bytes_for(packing::width(k), count)
+    (count <= COUNTERS) & (bytes == bytes_of(k, count))
 }
 
 // Whether so many bytes are what the counters of these lines take. Sizes first: `rows + columns` of any might overflow.

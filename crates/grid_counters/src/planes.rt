@@ -4,7 +4,6 @@ ghost use mathlib.Core.Path.{_≡_};
 ghost use mathlib.Core.Bool.{Bool};
 ghost use Prim.Native.Nat.{ℕ, _+_, _*_, _/_, _%_, _^_, _≤_, _<_};
 ghost use lib.Dec.{ltb};
-ghost use lib.ListN.{length, take, drop};
 ghost use Rattle.bits.specs.Bits.{num, has, word, words, number};
 ghost use Rattle.rdis.specs.Packing.{counter};
 ghost use Rattle.grid_sets.specs.Sets.{setsOf};
@@ -16,42 +15,11 @@ pub struct Planes {
     pub high: u64,
 }
 
-// A byte, moved up.
-fn lift(x: u8, at: usize) -> u64
-    requires { ⌜ at ≤ 56 ⌝ }
-    ensures { λ r. ⌜ r ≡ x * 2 ^ at ⌝ }
-{
-    (x as u64) << at
-}
-
-// The `n` bytes from byte `q` on as a number, the first the lowest.
-fn join(bytes: &[u8], q: usize, n: usize) -> u64
-    requires { ⌜ (q ≤ 64) × (n ≤ 8) × (q + n ≤ length (now bytes)) ⌝ }
-    ensures { λ r. ⌜ r ≡ number 256 (take n (drop q (now (bytes .entry)))) ⌝ }
-{
-    let mut v = 0u64;
-    let mut j = 0;
-    while j < n {
-        v = lift(bytes[q + j], 8 * j) | v;
-        j += 1;
-    }
-    v
-}
-
-// The 64 bits from byte `q` on, with 0 past the end. Eight bytes are joined by themselves: the compiler then makes one load of them.
+// The 64 bits from byte `q` on, with 0 past the end.
 pub fn load(bytes: &[u8], q: usize) -> u64
-    requires { ⌜ q ≤ 64 ⌝ }
     ensures { λ r. ⌜ r ≡ number 256 (now (bytes .entry)) / 2 ^ (8 * q) % 2 ^ 64 ⌝ }
 {
-    if bytes.len() <= q {
-        return 0;
-    }
-    let n = bytes.len() - q;
-    if n < 8 {
-        join(bytes, q, n)
-    } else {
-        join(bytes, q, 8)
-    }
+    words::load(bytes, q)
 }
 
 // The 32 bits at the even places, side by side. In a block with few faults most words are 0.

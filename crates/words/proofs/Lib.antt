@@ -1,2 +1,3 @@
 pub mod LowBitsLaws
 pub mod CopyLaws
+pub mod LoadLaws

@@ -1,10 +1,10 @@
 // Small functions on words. Each answers for every argument.
 ghost use mathlib.Core.Path.{_≡_};
 ghost use mathlib.Core.Bool.{true, cond};
-ghost use Prim.Native.Nat.{min};
+ghost use Prim.Native.Nat.{_+_, _*_, _^_, _≤_, min};
 ghost use lib.Dec.{eqb};
-ghost use lib.ListN.{length};
-ghost use Rattle.bits.specs.Bits.{word};
+ghost use lib.ListN.{length, take, drop};
+ghost use Rattle.bits.specs.Bits.{word, number};
 
 // The bits of a word.
 pub const BITS: usize = 64;
@@ -37,5 +37,43 @@ pub fn copy(from: &[u64], into: &mut [u64])
 {
     if into.len() == from.len() {
         copy_all(from, into);
+    }
+}
+
+// A byte, moved up.
+fn lift(x: u8, up: usize) -> u64
+    requires { ⌜ up ≤ 56 ⌝ }
+    ensures { λ r. ⌜ r ≡ x * 2 ^ up ⌝ }
+{
+    (x as u64) << up
+}
+
+// The `n` bytes from byte `at` on as a number, the first the lowest.
+fn join(bytes: &[u8], at: usize, n: usize) -> u64
+    requires { ⌜ (n ≤ 8) × (at + n ≤ length (now bytes)) ⌝ }
+    ensures { λ r. ⌜ r ≡ number 256 (take n (drop at (now (bytes .entry)))) ⌝ }
+{
+    let mut v = 0u64;
+    let mut j = 0;
+    while j < n {
+        v = lift(bytes[at + j], 8 * j) | v;
+        j += 1;
+    }
+    v
+}
+
+// The word of the eight bytes from byte `at` on, the first the lowest, with 0 past the end. Eight are joined by themselves: the compiler then makes one load
+// of them.
+pub fn load(bytes: &[u8], at: usize) -> u64
+    ensures { λ r. ⌜ r ≡ number 256 (take 8 (drop at (now (bytes .entry)))) ⌝ }
+{
+    if bytes.len() <= at {
+        return 0;
+    }
+    let n = bytes.len() - at;
+    if n < 8 {
+        join(bytes, at, n)
+    } else {
+        join(bytes, at, 8)
     }
 }

@@ -1,0 +1,34 @@
+-- Laws of the first line that applies: it is unique, tests in turn find it, and which line applies tells it. Assumes nothing.
+use Prim.Native.Nat.{ℕ}
+use mathlib.Core.Path.{_≡_, refl, sym, _∙_}
+use mathlib.Core.Bool.{Bool, true, false, cond}
+use mathlib.Core.List.{List, [], _∷_}
+use mathlib.Core.Logic.{_↔_, inl, inr, ⊎-elim}
+use Rattle.bits.specs.First.{Refusal, _when_, First}
+use Rattle.bits.proofs.TestLaws.{iff-false}
+
+-- ---- told by which line applies
+
+module _ {o x : ℕ} {P : Type 0} {rs : List Refusal} where
+  pub hit : First ((o when P) ∷ rs) x → P → x ≡ o
+  hit r p = ⊎-elim (λ (h, e). e) (λ (h, f). absurd (h p)) (r .found)
+
+  pub miss : First ((o when P) ∷ rs) x → (P → ⊥) → First rs x
+  miss r n = record { found = ⊎-elim (λ (h, e). absurd (n h)) (λ (h, f). f) (r .found) }
+
+pub missed : {x : ℕ} → First [] x → x ≡ 0
+missed r = r .found
+
+-- no other number is
+pub first-one : (rs : List Refusal) (x y : ℕ) → First rs x → First rs y → x ≡ y
+first-one [] x y r s = missed r ∙ sym (missed s)
+first-one ((o when P) ∷ rs) x y r s = ⊎-elim (λ (h, e). e ∙ sym (hit s h)) (λ (h, f). first-one rs x y (record { found = f }) (miss s h)) (r .found)
+
+-- ---- found by tests in turn: those after a line may assume that it does not apply
+
+pub first-test : (o x : ℕ) (P : Type 0) (rs : List Refusal) (t : Bool) → (t ≡ true) ↔ P → ((P → ⊥) → First rs x) → First ((o when P) ∷ rs) (cond t o x)
+first-test o x P rs true f r = record { found = inl (f .0 refl, refl) }
+first-test o x P rs false f r = record { found = inr (iff-false false f refl, r (iff-false false f refl) .found) }
+
+pub first-none : First [] 0
+first-none = record { found = refl }
