@@ -25,6 +25,7 @@ int main(void)
 {
     try_rows();
     try_blocks();
+    try_transfers();
     printf("%d cases, %d failed\n", tried, failed);
     return failed != 0;
 }

@@ -1,5 +1,5 @@
-/* What the cases of rows and of blocks share. Every buffer has ROOM elements and is compared whole, with the room behind what is lent: so a refusal alters
- * nothing, and an accepted call only what it should. */
+/* What the cases of rows, of blocks and of transfers share. Every buffer has ROOM elements and is compared whole, with the room behind what is lent: so a
+ * refusal alters nothing, and an accepted call only what it should. */
 #ifndef CASES_H
 #define CASES_H
 
@@ -15,5 +15,6 @@ size_t put_hex(const char *text, uint8_t *bytes);
 
 void try_rows(void);
 void try_blocks(void);
+void try_transfers(void);
 
 #endif

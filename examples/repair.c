@@ -20,6 +20,8 @@ static const char *in_words(size_t number)
     case ERNAVLUQ_SAME_POINTER: return "two active entries hold the same pointer";
     case ERNAVLUQ_NO_ENTRY_LEFT: return "the row has no entry left";
     case ERNAVLUQ_UNMASKABLE: return "the faults of the block cannot be masked for this data";
+    case ERNAVLUQ_SHORT_BLOCK: return "bytes of a block that arrives in lumps are missing";
+    case ERNAVLUQ_LONG_BLOCK: return "more bytes came in lumps than the block has";
     case ERNAVLUQ_MISREAD: return "by these counters a stuck cell would read wrong";
     default: return "no number that a call answers";
     }

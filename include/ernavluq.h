@@ -5,7 +5,8 @@
  *
  * What may be passed: everything. A buffer may have any length, NULL with length 0 included, and a number may be any number. Every call ends. It does its
  * work and answers number 0, or it answers the number of one refusal; then every count in the answer is 0 and no buffer is altered. (An index is no count.)
- * If several refusals apply, the answer is the lowest. Each call is proved to do what is said here, for all arguments.
+ * If several refusals apply, the answer is the lowest; only the finish of a transfer has an order of its own. Each call is proved to do what is said here,
+ * for all arguments.
  *
  * What the caller owes: after each pointer comes its length in elements, bytes or words, and so many elements stand there. Words are aligned as the machine
  * aligns a uint64_t. A buffer that is written, one whose pointer is not const, overlaps no other buffer of the call, and no other thread touches it
@@ -36,6 +37,8 @@ enum ernavluq_refusal {
     ERNAVLUQ_SAME_POINTER = 5,  /* two active entries hold the same pointer */
     ERNAVLUQ_NO_ENTRY_LEFT = 6, /* the kept entries of a row and those it still needs are together more than n */
     ERNAVLUQ_UNMASKABLE = 7,    /* K levels do not mask the faults of a block for this data */
+    ERNAVLUQ_SHORT_BLOCK = 8,   /* a block that arrives in lumps was finished before all its bytes were there */
+    ERNAVLUQ_LONG_BLOCK = 9,    /* since the start a lump would have made such a block longer than it is */
     ERNAVLUQ_MISREAD = 13       /* by the counters that a store is lent, a stuck cell would read wrong */
 };
 
@@ -162,6 +165,48 @@ ernavluq_grid_convert_answer ernavluq_grid_convert(
     size_t rows, size_t columns, size_t k, size_t to,
     const uint8_t *counters, size_t counters_length,
     uint8_t *out, size_t out_length);
+
+/* ---- grid blocks that arrive in lumps: a read whose bytes come cut anywhere
+ *
+ * A block's bytes are its counters, ERNAVLUQ_COUNTER_BYTES(rows, columns, k) of them, and after them its cell words, 8 bytes each, the lowest byte first:
+ * ERNAVLUQ_BLOCK_BYTES(rows, columns, k) in all. A transfer starts with the block's numbers, takes the bytes in lumps of any length, no bytes included, and
+ * hands nothing out before it is finished. Then it answers and fills the output as ernavluq_grid_read does with the joined bytes.
+ *
+ * The transfer is passed and returned by value, and no call keeps anything of it: go on with the one that the last start or lump returned. A copy is a
+ * transfer of its own. Any bits may be passed as one, even if no call made them: with numbers out of range every call but a start answers 1, and with more
+ * bytes taken than the block has, 9. */
+
+/* The bytes of a block, and those of the longest: 64 rows and 64 columns at K = 4 to 7. */
+#define ERNAVLUQ_BLOCK_BYTES(rows, columns, k) (ERNAVLUQ_COUNTER_BYTES(rows, columns, k) + 8 * (rows))
+#define ERNAVLUQ_MAX_BLOCK_BYTES 560
+
+typedef struct {
+    size_t rows;                             /* what the start was given */
+    size_t columns;
+    size_t k;
+    size_t taken;                            /* the bytes taken so far; after a refusal 9 more than the block has */
+    uint8_t bytes[ERNAVLUQ_MAX_BLOCK_BYTES]; /* these bytes first */
+} ernavluq_transfer;
+
+typedef struct {
+    size_t number;              /* 0, or the refusal: 1 or 9 */
+    ernavluq_transfer transfer; /* the transfer from here on */
+} ernavluq_transfer_step;
+
+/* Starts a transfer of a block with these rows and columns (1 to 64 each) and K (1 to 7): no byte is taken yet. Whatever was on its way before is given up.
+ * Refusals: 1. Then every later call of this transfer answers 1 too. */
+ernavluq_transfer_step ernavluq_transfer_start(size_t rows, size_t columns, size_t k);
+
+/* Takes a lump: its bytes follow those taken before. Lumps may follow a finish, and after a finish with refusal 8 they may complete the block.
+ * Refusals: 1, if the start was refused with it; 9, if the block would get longer than it is. Then no byte of the lump is taken, and every later call of
+ * this transfer answers 9 too, a lump of no bytes included. */
+ernavluq_transfer_step ernavluq_transfer_lump(ernavluq_transfer transfer, const uint8_t *bytes, size_t bytes_length);
+
+/* Finishes a block: reads it if all its bytes are there. Accepted, out holds what ernavluq_grid_read makes of the block's cells and counters. The transfer
+ * stays as it was, so a finish may be repeated, and lumps may follow it. Of out only the length counts.
+ * Refusals, and here the first that applies is the answer: 1; 9; 2, if out has not one word a row; 8, if bytes are missing, whatever those that came hold;
+ * 3; and 4 with its index. */
+ernavluq_grid_read_answer ernavluq_transfer_finish(ernavluq_transfer transfer, uint64_t *out, size_t out_length);
 
 #ifdef __cplusplus
 }

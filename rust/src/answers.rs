@@ -38,7 +38,7 @@ pub struct GridAnswer {
     pub index: usize,
 }
 
-/// What a read of a grid block answers.
+/// What a read of a grid block answers, and the finish of a transfer.
 #[repr(C)]
 #[derive(Clone, Copy, Debug, PartialEq, Eq)]
 pub struct GridReadAnswer {
@@ -58,6 +58,13 @@ pub struct GridConvertAnswer {
     pub index: usize,
 }
 
+/// What a start and a lump of a transfer answer, apart from the transfer itself.
+#[derive(Clone, Copy, Debug, PartialEq, Eq)]
+pub struct TransferAnswer {
+    /// 0, or the number of the refusal.
+    pub number: usize,
+}
+
 /// The answer of any call.
 #[derive(Clone, Copy, Debug, PartialEq, Eq)]
 pub enum Answer {
@@ -67,6 +74,9 @@ pub enum Answer {
     GridStore(GridAnswer),
     GridRead(GridReadAnswer),
     GridConvert(GridConvertAnswer),
+    TransferStart(TransferAnswer),
+    TransferLump(TransferAnswer),
+    TransferFinish(GridReadAnswer),
 }
 
 impl Answer {
@@ -79,6 +89,8 @@ impl Answer {
             Answer::GridStore(answer) => answer.number,
             Answer::GridRead(answer) => answer.number,
             Answer::GridConvert(answer) => answer.number,
+            Answer::TransferStart(answer) | Answer::TransferLump(answer) => answer.number,
+            Answer::TransferFinish(answer) => answer.number,
         }
     }
 }

@@ -2,6 +2,7 @@
 use crate::answers::{
     GridAnswer, GridConvertAnswer, GridReadAnswer, PointerReadAnswer, PointerWriteAnswer,
 };
+use crate::transfer::{Transfer, TransferStep};
 
 extern "C" {
     pub fn ernavluq_pointer_read(
@@ -80,4 +81,18 @@ extern "C" {
         out: *mut u8,
         out_length: usize,
     ) -> GridConvertAnswer;
+
+    pub fn ernavluq_transfer_start(rows: usize, columns: usize, k: usize) -> TransferStep;
+
+    pub fn ernavluq_transfer_lump(
+        transfer: Transfer,
+        bytes: *const u8,
+        bytes_length: usize,
+    ) -> TransferStep;
+
+    pub fn ernavluq_transfer_finish(
+        transfer: Transfer,
+        out: *mut u64,
+        out_length: usize,
+    ) -> GridReadAnswer;
 }

@@ -1,7 +1,8 @@
 //! Repair codes for memory whose cells get stuck at 0 or 1: pointer rows and grid blocks, over the archive `libernavluq.a`, whose calls are proved.
 //!
 //! Any number and slices of any length may be passed. Every call ends, and it either does its work or gives one [`Refusal`], the lowest that applies; then
-//! no slice is altered. A mask bit of 1 says that a cell is stuck, and the value bit says at what.
+//! no slice is altered. Only the finish of a [`Transfer`], which reads a block that arrives in lumps, has an order of its own. A mask bit of 1 says that a
+//! cell is stuck, and the value bit says at what.
 //!
 //! A row of 512 cells, one of them stuck at 1 where the data has a 0:
 //!
@@ -30,14 +31,17 @@
 mod answers;
 mod ffi;
 mod refusal;
+mod transfer;
 
 pub use answers::{
     Answer, GridAnswer, GridConvertAnswer, GridReadAnswer, PointerReadAnswer, PointerWriteAnswer,
+    TransferAnswer,
 };
 pub use refusal::{
-    Refusal, BIT_PAST_END, MALFORMED, MISREAD, NO_ENTRY_LEFT, OUT_OF_RANGE, SAME_POINTER,
-    UNMASKABLE, WRONG_LENGTH,
+    Refusal, BIT_PAST_END, LONG_BLOCK, MALFORMED, MISREAD, NO_ENTRY_LEFT, OUT_OF_RANGE,
+    SAME_POINTER, SHORT_BLOCK, UNMASKABLE, WRONG_LENGTH,
 };
+pub use transfer::{block_bytes, Transfer, MAX_BLOCK_BYTES};
 
 /// The bytes of a row's data, mask, values, cells and output: position p is bit p mod 8 of byte p / 8, the lowest first.
 pub const ROW_BYTES: usize = 64;

@@ -17,10 +17,15 @@ pub const SAME_POINTER: usize = 5;
 pub const NO_ENTRY_LEFT: usize = 6;
 /// The faults of a block cannot be masked for this data.
 pub const UNMASKABLE: usize = 7;
+/// A block that arrives in lumps was finished before all its bytes were there.
+pub const SHORT_BLOCK: usize = 8;
+/// Since the start a lump would have made a block that arrives in lumps longer than it is.
+pub const LONG_BLOCK: usize = 9;
 /// By the counters that a store is lent, a stuck cell would read wrong.
 pub const MISREAD: usize = 13;
 
-/// A call that was refused: the lowest refusal that applies. No buffer was altered.
+/// A call that was refused: the lowest refusal that applies; only the finish of a [`Transfer`](crate::Transfer) has an order of its own. No buffer was
+/// altered.
 #[derive(Clone, Copy, Debug, PartialEq, Eq)]
 pub struct Refusal {
     /// The whole answer; every count in it is 0, and with any number but 4 the index too.
@@ -33,13 +38,14 @@ impl Refusal {
         self.answer.number()
     }
 
-    /// The index of the first counter above K, where a store, a read or a conversion was refused with [`MALFORMED`]. The rows' counters are counted first,
-    /// from 0, and then the columns': of a block of `rows` rows an index below `rows` is that row, and any other is column `index - rows`.
+    /// The index of the first counter above K, where a store, a read, a finish or a conversion was refused with [`MALFORMED`]. The rows' counters are counted
+    /// first, from 0, and then the columns': of a block of `rows` rows an index below `rows` is that row, and any other is column `index - rows`.
     pub fn bad_counter(&self) -> Option<usize> {
         match self.answer {
             Answer::GridStore(answer) if answer.number == MALFORMED => Some(answer.index),
             Answer::GridRead(answer) if answer.number == MALFORMED => Some(answer.index),
             Answer::GridConvert(answer) if answer.number == MALFORMED => Some(answer.index),
+            Answer::TransferFinish(answer) if answer.number == MALFORMED => Some(answer.index),
             _ => None,
         }
     }
@@ -58,6 +64,8 @@ impl fmt::Display for Refusal {
             SAME_POINTER => "two active entries hold the same pointer",
             NO_ENTRY_LEFT => "the row has no entry left",
             UNMASKABLE => "the faults of the block cannot be masked for this data",
+            SHORT_BLOCK => "bytes of a block that arrives in lumps are missing",
+            LONG_BLOCK => "more bytes came in lumps than the block has",
             MISREAD => "by these counters a stuck cell would read wrong",
             _ => "no number that a call answers",
         };

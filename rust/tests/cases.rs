@@ -332,7 +332,7 @@ fn a_refusal_speaks() {
         refusal.to_string(),
         "refusal 1: n, the rows, the columns, K or the target lie outside their range"
     );
-    for number in (1..=7).chain([13]) {
+    for number in (1..=9).chain([13]) {
         let told = Refusal {
             answer: Answer::GridRead(GridReadAnswer { number, index: 0 }),
         }

@@ -16,6 +16,13 @@ use Rattle.bits.proofs.BitLaws.{has-zero, has-word, word-lt, word-ext, 
 pub past-end : (xs : List ℕ) (i : ℕ) → length xs ≤ i → getD xs i 0 ≡ 0
 past-end xs i h = List·getD-eq-default xs 0 h
 
+-- what is cut off at the end does not count before it
+pub getD-take : (n : ℕ) (xs : List ℕ) (i : ℕ) → i < n → getD (take n xs) i 0 ≡ getD xs i 0
+getD-take zero xs i l = absurd (omega arith)
+getD-take (suc n) [] i l = refl
+getD-take (suc n) (x ∷ xs) zero l = refl
+getD-take (suc n) (x ∷ xs) (suc i) l = getD-take n xs i (omega arith)
+
 -- elements of a list of m are below b where those that it has are
 pub below-all : (m b : ℕ) (xs : List ℕ) → 0 < b → length xs ≡ m → ((i : ℕ) → i < m → getD xs i 0 < b) → Below b xs
 below-all m b xs p l h i = ⊎-elim (λ k. h i k) (λ k. rw (past-end xs i (omega arith)) p) (lt-or-le i m)

@@ -1,9 +1,10 @@
 -- Laws of the first line that applies: it is unique, tests in turn find it, and which line applies tells it. Assumes nothing.
-use Prim.Native.Nat.{ℕ}
+use Prim.Native.Nat.{ℕ, _<_}
 use mathlib.Core.Path.{_≡_, refl, sym, _∙_}
 use mathlib.Core.Bool.{Bool, true, false, cond}
 use mathlib.Core.List.{List, [], _∷_}
-use mathlib.Core.Logic.{_↔_, inl, inr, ⊎-elim}
+use mathlib.Core.Logic.{_↔_, _≢_, inl, inr, ⊎-elim}
+use native.Mathlib.Omega.{arith}
 use Rattle.bits.specs.First.{Refusal, _when_, First}
 use Rattle.bits.proofs.TestLaws.{iff-false}
 
@@ -15,6 +16,13 @@ module _ {o x : ℕ} {P : Type 0} {rs : List Refusal} where
 
   pub miss : First ((o when P) ∷ rs) x → (P → ⊥) → First rs x
   miss r n = record { found = ⊎-elim (λ (h, e). absurd (n h)) (λ (h, f). f) (r .found) }
+
+  -- told by the number: a line that has another one did not apply, and the last applies where there is a refusal
+  pub skip : First ((o when P) ∷ rs) x → x ≢ o → First rs x
+  skip r n = record { found = ⊎-elim (λ (h, e). absurd (n e)) (λ (h, f). f) (r .found) }
+
+pub last : {o x : ℕ} {P : Type 0} → First ((o when P) ∷ []) x → 0 < x → P
+last r l = ⊎-elim (λ (h, e). h) (λ (h, z). absurd (omega arith)) (r .found)
 
 pub missed : {x : ℕ} → First [] x → x ≡ 0
 missed r = r .found

@@ -9,7 +9,6 @@ pub data Refusal : Type 1 where
   _when_ : ℕ → Type 0 → Refusal
 
 infix 5 _when_
-
 -- x is the number of the first line that applies, or 0 where none does
 abbrev pub Found : List Refusal → ℕ → Type 0
 Found [] x = x ≡ 0

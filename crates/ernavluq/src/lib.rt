@@ -1,9 +1,10 @@
-// The six calls for programs in C and Rust, in the archive libernavluq.a. Each promises what the call behind it does; include/ernavluq.h declares them.
+// The nine calls for programs in C and Rust, in the archive libernavluq.a. Each promises what the call behind it does; include/ernavluq.h declares them.
 // Their names have a prefix, because nothing keeps an exported name apart from those of the C library.
 ghost use Rattle.pointer_promises.specs.Promises as Pointer;
 ghost use Rattle.grid_promises.specs.Promises as Grid;
 ghost use Rattle.grid_promises.specs.Calls.{block};
 ghost use Rattle.grid_promises.specs.Conversion.{Convert};
+ghost use Rattle.fragment_promises.specs.Promises.{Start, Lump, Finishes};
 
 #[no_mangle]
 pub extern "C" fn ernavluq_pointer_read(
@@ -88,4 +89,35 @@ pub extern "C" fn ernavluq_grid_convert(
     ensures { λ r. ⌜ Convert rows columns k to (now (counters .entry)) (now (out .entry)) r (now (out .exit)) ⌝ }
 {
     grid::convert(rows, columns, k, to, counters, out)
+}
+
+#[no_mangle]
+pub extern "C" fn ernavluq_transfer_start(
+    rows: usize,
+    columns: usize,
+    k: usize,
+) -> fragment_promises::Step
+    ensures { λ r. ⌜ Start rows columns k r ⌝ }
+{
+    fragments::start(rows, columns, k)
+}
+
+#[no_mangle]
+pub extern "C" fn ernavluq_transfer_lump(
+    transfer: fragment_promises::Transfer,
+    bytes: &[u8],
+) -> fragment_promises::Step
+    ensures { λ r. ⌜ Lump transfer (now (bytes .entry)) r ⌝ }
+{
+    fragments::lump(transfer, bytes)
+}
+
+#[no_mangle]
+pub extern "C" fn ernavluq_transfer_finish(
+    transfer: fragment_promises::Transfer,
+    out: &mut [u64],
+) -> grid_promises::ReadAnswer
+    ensures { λ r. ⌜ Finishes transfer (now (out .entry)) r (now (out .exit)) ⌝ }
+{
+    fragments::finish(transfer, out)
 }

@@ -14,5 +14,9 @@ pub const SAME_POINTER: usize = 5;
 pub const NO_ENTRY_LEFT: usize = 6;
 // The faults of a grid cannot be masked for this data.
 pub const UNMASKABLE: usize = 7;
+// A block that arrives in lumps was finished before all its bytes were there.
+pub const SHORT_BLOCK: usize = 8;
+// A lump would have made a block longer than it is.
+pub const LONG_BLOCK: usize = 9;
 // By the counters that a store is lent, a stuck cell would read wrong.
 pub const MISREAD: usize = 13;

@@ -1,0 +1,143 @@
+-- What the theorem over sequences comes to: whole, short and long blocks, what does not count, and refusals that stay. Assumes nothing.
+use Prim.Native.Nat.{ℕ, _+_, _^_, _<_, _≤_}
+use mathlib.Core.Path.{_≡_, refl, sym, ap, subst, _∙_}
+use mathlib.Core.List.{List, [], _∷_, _++_, append-assoc, append-nil}
+use mathlib.Core.Logic.{_≢_}
+use native.Mathlib.Nat.{lt-of-lt-of-le, pow-le-pow-right}
+use native.Mathlib.Omega.{arith}
+use lib.ListN.{length}
+use Rattle.bits.specs.Bits.{Below}
+use Rattle.bits.proofs.FirstLaws.{hit, miss}
+use Rattle.grid_promises.specs.Promises.{Read}
+use Rattle.grid_promises.specs.Refusals.{InRange}
+use Rattle.grid_promises.specs.declared.ReadAnswer.{ReadAnswer}
+use Rattle.grid_promises.proofs.OneAnswer.{one-read}
+use Rattle.grid_promises.proofs.ByDemands.{store-exactly}
+use Rattle.grid_promises.proofs.StoreDemands.{store-range, store-lengths, store-demands}
+use Rattle.fragment_promises.specs.Transfers.{counterBytes, size, wordBytes}
+use Rattle.fragment_promises.specs.Demands.{FinishDemands}
+use Rattle.fragment_promises.specs.Sequences.{lump, none, starts, takes, ends, Story, begun, tell, story}
+use Rattle.fragment_promises.specs.Sequences.{Whole, Sent, StoreThenSend, RefusedWith, Short, Long, Bad, lumps, joined, Joined, TwoCuttings, AnyCutting, EmptyLump, FinishBetween, StartsAfresh, Refused, Stays}
+use Rattle.fragment_promises.proofs.BlockLaws.{counters-back, cells-back, block-length, block-below}
+use Rattle.fragment_promises.proofs.FinishLaws.{demands-read, one-finish-by-demands}
+use Rattle.fragment_promises.proofs.StepLaws.{lump-unchanged, lump-empty}
+use Rattle.fragment_promises.proofs.SequenceLaws.{every-finish}
+
+-- ---- a whole block
+
+pub whole-block : Whole
+whole-block t u m n k es out a after c f r b e =
+    let h = story (begun m n k) es in
+    demands-read (h .rows) (h .columns) (h .k) (length (h .sent)) (h .sent) out a after b r (omega arith) (omega arith) (every-finish t u m n k es out a after c f)
+
+-- counters and cells that were sent as bytes are read as if they were lent
+module _ (m n k : ℕ) (cells counters out : List ℕ) (a : ReadAnswer) (after : List ℕ) (r : InRange m n k) (rows : length cells ≡ m)
+    (bytes : length counters ≡ counterBytes m n k) (words : Below (2 ^ 64) cells) (few : Below 256 counters) where
+  reads-sent : (sent : List ℕ) → sent ≡ counters ++ wordBytes cells → FinishDemands m n k (length sent) sent out a after → Read m n k cells counters out a after
+  reads-sent sent e d =
+      let block = counters ++ wordBytes cells in
+      let long : length block ≡ size m n k = block-length m n k cells counters rows bytes in
+      subst (λ X. X) (λ i. Read m n k (cells-back m n k cells counters rows bytes words i) (counters-back m n k cells counters rows bytes i) out a after)
+      (demands-read m n k (length block) block out a after (block-below cells counters few) r (omega arith) (omega arith)
+      (subst (λ x. FinishDemands m n k (length x) x out a after) e d))
+
+pub sent-block : Sent
+sent-block t u m n k es cells counters out a after c f r rows bytes words few e =
+    let h = story (begun m n k) es in
+    reads-sent (h .rows) (h .columns) (h .k) cells counters out a after r rows bytes words few (h .sent) e (every-finish t u m n k es out a after c f)
+
+pub store-then-send : StoreThenSend
+store-then-send t u b k es counters old cells out s a after d z few o c f e =
+    let none = d .lowest .none z in
+    let r : InRange (b .rows) (b .columns) k = store-range b k counters old none in
+    let (rows, inside) = d .inside z in
+    let words : Below (2 ^ 64) cells = λ i. lt-of-lt-of-le (inside i) (pow-le-pow-right (omega arith) (r .columns .1)) in
+    let sent = counters ++ wordBytes cells in
+    let ends : FinishDemands (b .rows) (b .columns) k (length sent) sent out a after =
+    subst (λ X. X) (λ i. FinishDemands (e i .rows) (e i .columns) (e i .k) (length (e i .sent)) (e i .sent) out a after)
+    (every-finish t u (b .rows) (b .columns) k es out a after c f) in
+    let read = reads-sent (b .rows) (b .columns) k cells counters out a after r rows (store-lengths b k counters old none .planned .counterBytes) words few sent refl ends in
+    let back = store-demands b k counters old s cells (store-exactly b k counters old s cells d) .readsBack z out o in
+    let (same, filled) = one-read (b .rows) (b .columns) k cells counters out a _ after _ (read .exactly) (back .exactly) in
+    (ap (λ x. x .number) same, filled)
+
+-- ---- refused
+
+module _ (m n k taken : ℕ) (bs out : List ℕ) (a : ReadAnswer) (after : List ℕ) (d : FinishDemands m n k taken bs out a after) where
+  refused-with : (x : ℕ) → 0 < x → x ≢ 4 → a .number ≡ x → RefusedWith x out a after
+  refused-with x l n e = record { number = e; index = d .names .none (λ z. n (sym e ∙ z)); untouched = d .untouched (omega arith) }
+
+  refused-bad : (InRange m n k → ⊥) → RefusedWith 1 out a after
+  refused-bad h = refused-with 1 (omega arith) (λ e. omega arith) (hit (d .first) h)
+
+  refused-long : InRange m n k → size m n k < taken → RefusedWith 9 out a after
+  refused-long r l = refused-with 9 (omega arith) (λ e. omega arith) (hit (miss (d .first) (λ h. h r)) l)
+
+  refused-short : InRange m n k → taken ≤ size m n k → length out ≡ m → length bs < size m n k → RefusedWith 8 out a after
+  refused-short r g o l =
+      refused-with 8 (omega arith) (λ e. omega arith) (hit (miss (miss (miss (d .first) (λ h. h r)) (λ h. omega arith)) (λ h. h o)) l)
+
+pub short-block : Short
+short-block t u m n k es out a after c f r o l =
+    let h = story (begun m n k) es in refused-short _ _ _ _ (h .sent) out a after (every-finish t u m n k es out a after c f) r (omega arith) o l
+
+pub long-block : Long
+long-block t u m n k es out a after c f r l =
+    let h = story (begun m n k) es in refused-long _ _ _ _ (h .sent) out a after (every-finish t u m n k es out a after c f) r l
+
+pub bad-block : Bad
+bad-block t u m n k es out a after c f r =
+    let h = story (begun m n k) es in refused-bad _ _ _ _ (h .sent) out a after (every-finish t u m n k es out a after c f) r
+
+-- ---- what does not count
+
+pub any-cutting : AnyCutting
+any-cutting t u t′ u′ m n k m′ n′ k′ es es′ out a a′ x x′ e c c′ f f′ =
+    let h = story (begun m′ n′ k′) es′ in
+    one-finish-by-demands (h .rows) (h .columns) (h .k) (length (h .sent)) (h .sent) out a a′ x x′
+    (subst (λ X. X) (λ i. FinishDemands (e i .rows) (e i .columns) (e i .k) (length (e i .sent)) (e i .sent) out a x) (every-finish t u m n k es out a x c f))
+    (every-finish t′ u′ m′ n′ k′ es′ out a′ x′ c′ f′)
+
+-- lumps alone tell their bytes
+tells : (h : Story) (bss : List (List ℕ)) → story h (lumps bss) ≡ record { rows = h .rows; columns = h .columns; k = h .k; sent = h .sent ++ joined bss }
+tells h [] = λ i. record { rows = h .rows; columns = h .columns; k = h .k; sent = sym (append-nil (h .sent)) i }
+tells h (bs ∷ bss) =
+    tells (tell h (lump bs)) bss ∙ (λ i. record { rows = h .rows; columns = h .columns; k = h .k; sent = append-assoc (h .sent) bs (joined bss) i })
+
+pub two-cuttings : TwoCuttings
+two-cuttings t u t′ u′ m n k bss css out a a′ x x′ e =
+    any-cutting t u t′ u′ m n k m n k (lumps bss) (lumps css) out a a′ x x′
+    (tells (begun m n k) bss ∙ (λ i. record { rows = m; columns = n; k = k; sent = e i }) ∙ sym (tells (begun m n k) css))
+
+pub joined-lumps : Joined
+joined-lumps t u m n k bss out a after r o b c f =
+    let e = tells (begun m n k) bss in
+    let d : FinishDemands m n k (length (joined bss)) (joined bss) out a after =
+    subst (λ X. X) (λ i. FinishDemands (e i .rows) (e i .columns) (e i .k) (length (e i .sent)) (e i .sent) out a after) (every-finish t u m n k (lumps bss) out a after c f) in
+    record {
+      asLong = λ l. demands-read m n k (length (joined bss)) (joined bss) out a after b r (omega arith) (omega arith) d;
+      shorter = λ l. refused-short m n k (length (joined bss)) (joined bss) out a after d r (omega arith) o l;
+      longer = λ l. refused-long m n k (length (joined bss)) (joined bss) out a after d r l;
+    }
+
+pub empty-lump : EmptyLump
+empty-lump t s d = lump-empty t s d
+
+pub finish-between : FinishBetween
+finish-between t u [] es′ out (ends d c) = c
+finish-between t u (e ∷ es) es′ out (starts d c) = starts d (finish-between _ u es es′ out c)
+finish-between t u (e ∷ es) es′ out (takes d c) = takes d (finish-between _ u es es′ out c)
+finish-between t u (e ∷ es) es′ out (ends d c) = ends d (finish-between _ u es es′ out c)
+
+pub starts-afresh : StartsAfresh
+starts-afresh h m n k [] es′ = refl
+starts-afresh h m n k (e ∷ es) es′ = starts-afresh (tell h e) m n k es es′
+
+-- ---- refusals that stay
+
+pub stays : Stays
+stays t u es r q none = refl
+stays t u es r q (starts d c) = absurd q
+stays t u es r q (takes {bs} {s} {es = fs} d c) =
+    let e = lump-unchanged t bs s d r in stays (s .transfer) u fs (subst Refused (sym e) r) q c ∙ e
+stays t u es r q (ends {es = fs} d c) = stays t u fs r q c

@@ -1,0 +1,7 @@
+pub mod StandingLaws
+pub mod BlockLaws
+pub mod PutLaws
+pub mod StepLaws
+pub mod FinishLaws
+pub mod SequenceLaws
+pub mod CuttingLaws

@@ -1,0 +1,147 @@
+-- The record and the story agree through every sequence of calls, so a lump and a finish answer as the story says. Assumes nothing.
+use Prim.Native.Nat.{ℕ, _+_, _<_, _≤_}
+use mathlib.Core.Path.{_≡_, refl, sym, ap, subst, _∙_}
+use mathlib.Core.List.{List, [], _∷_, _++_}
+use mathlib.Core.Logic.{_≢_, inl, inr, ⊎-elim}
+use native.Mathlib.Omega.{arith}
+use lib.ListN.{length, take, length-append}
+use Rattle.bits.specs.First.{_when_, First}
+use Rattle.bits.proofs.TestLaws.{lt-or-le, true-or-false, iff-false}
+use Rattle.bits.proofs.FirstLaws.{hit, miss}
+use Rattle.grid_promises.specs.Calls.{inRange}
+use Rattle.grid_promises.specs.Refusals.{InRange}
+use Rattle.grid_promises.proofs.RefusalLaws.{in-range}
+use Rattle.grid_promises.specs.declared.ReadAnswer.{ReadAnswer}
+use Rattle.fragment_promises.specs.declared.Transfer.{Transfer}
+use Rattle.fragment_promises.specs.declared.Step.{Step}
+use Rattle.fragment_promises.specs.Transfers.{size, sizeOf, standingOf, held, lumped}
+use Rattle.fragment_promises.specs.Demands.{Told, Good, StartDemands, LumpDemands, finishRefusals, FinishDemands}
+use Rattle.fragment_promises.specs.Promises.{FinishesBy}
+use Rattle.fragment_promises.specs.Sequences.{Event, start, lump, finish, Calls, none, starts, takes, ends, Story, begun, tell, story, Fine, whole, EveryLump, EveryFinish}
+use Rattle.fragment_promises.proofs.PutLaws.{length-put, take-put}
+use Rattle.fragment_promises.proofs.StandingLaws.{size-most, well-good, well-size, ill, by-lump}
+use Rattle.fragment_promises.proofs.StepLaws.{lump-exactly}
+
+-- the record holds what was sent; where that is more than the block has, more bytes count as taken
+record Agrees (h : Story) (t : Transfer) : Type 0 where
+  told : Told (h .rows) (h .columns) (h .k) t
+  room : length (t .bytes) ≡ 560
+  within : Good t → length (h .sent) ≤ sizeOf t → (t .taken ≡ length (h .sent)) × (held t ≡ h .sent)
+  over : Good t → sizeOf t < length (h .sent) → sizeOf t < t .taken
+
+-- ---- through a start and a lump
+
+at-start : (m n k : ℕ) (s : Step) → StartDemands m n k s → Agrees (begun m n k) (s .transfer)
+at-start m n k s d = record {
+  told = d .told;
+  room = d .room;
+  within = λ _ _. (d .none, ap (λ p. take p (s .transfer .bytes)) (d .none));
+  over = λ _ l. absurd (omega arith);
+}
+
+module _ (h : Story) (t : Transfer) (bs : List ℕ) (a : Agrees h t) where
+  -- a record that stands well took all that was sent
+  all : standingOf t ≡ 0 → (t .taken ≡ length (h .sent)) × (held t ≡ h .sent)
+  all z =
+      let r = well-good t z in
+      a .within r (⊎-elim (λ l. absurd (omega (arith, a .over r l, well-size t z))) (λ l. l) (lt-or-le (sizeOf t) (length (h .sent))))
+
+  longer : length (h .sent ++ bs) ≡ length (h .sent) + length bs
+  longer = length-append (h .sent) bs
+
+  at-lump : Agrees (tell h (lump bs)) (lumped t bs)
+  at-lump = by-lump t bs (Agrees (tell h (lump bs)))
+      (λ l. record {
+        told = a .told;
+        room = a .room;
+        within = λ r g. absurd (⊎-elim (λ n. n r) (λ o. omega (arith, longer, a .within r (omega (arith, longer)) .0)) (ill t l));
+        over = λ r g. ⊎-elim (λ n. absurd (n r)) (λ o. o) (ill t l);
+      })
+      (λ z l.
+      let (e, f) = all z in
+      let fits : t .taken + length bs ≤ length (t .bytes) = omega (arith, a .room, size-most _ _ _ (well-good t z)) in
+      record {
+        told = record { rows = a .told .rows; columns = a .told .columns; levels = a .told .levels };
+        room = length-put (t .taken) (t .bytes) bs fits ∙ a .room;
+        within = λ r g. (omega (arith, longer, e), take-put (t .taken) (t .bytes) bs fits ∙ ap (λ x. x ++ bs) f);
+        over = λ r g. absurd (omega (arith, longer, e));
+      })
+      (λ z l.
+      let (e, f) = all z in
+      record {
+        told = record { rows = a .told .rows; columns = a .told .columns; levels = a .told .levels };
+        room = a .room;
+        within = λ r g. absurd (omega (arith, longer, e));
+        over = λ r g. omega (arith, size-most _ _ _ r);
+      })
+
+at-end : (h : Story) (t u : Transfer) (es : List Event) → Calls t es u → Agrees h t → Agrees (story h es) u
+at-end h t u es none a = a
+at-end h t u es (starts {m} {n} {k} {s} {es = fs} d c) a = at-end (begun m n k) (s .transfer) u fs c (at-start m n k s d)
+at-end h t u es (takes {bs} {s} {es = fs} d c) a =
+    at-end (tell h (lump bs)) (s .transfer) u fs c
+    (subst (Agrees (tell h (lump bs))) (sym (ap (λ s. s .transfer) (lump-exactly t bs (a .room) s d))) (at-lump h t bs a))
+at-end h t u es (ends {es = fs} d c) a = at-end h t u fs c a
+
+agree : (t u : Transfer) (m n k : ℕ) (es : List Event) → Calls t (start m n k ∷ es) u → Agrees (story (begun m n k) es) u
+agree t u m n k es (starts {s = s} d c) = at-end (begun m n k) (s .transfer) u es c (at-start m n k s d)
+
+-- ---- a record that agrees with a story answers as the story says
+
+module _ (h : Story) (t : Transfer) (a : Agrees h t) where
+  same-size : sizeOf t ≡ whole h
+  same-size = λ i. size (a .told .rows i) (a .told .columns i) (a .told .levels i)
+
+  fine-good : Fine h → Good t
+  fine-good r = subst (λ X. X) (λ i. InRange (sym (a .told .rows) i) (sym (a .told .columns) i) (sym (a .told .levels) i)) r
+
+  good-fine : Good t → Fine h
+  good-fine r = subst (λ X. X) (λ i. InRange (a .told .rows i) (a .told .columns i) (a .told .levels i)) r
+
+  -- the three ways: bad numbers, too many bytes, or all that was sent
+  by-story : (P : Type 0) → ((Good t → ⊥) → P) → (Good t → whole h < length (h .sent) → sizeOf t < t .taken → P)
+      → (Good t → t .taken ≡ length (h .sent) → held t ≡ h .sent → P) → P
+  by-story P bad long held-all =
+      ⊎-elim
+      (λ e. let r = in-range (t .rows) (t .columns) (t .k) .0 e in
+      ⊎-elim (λ l. long r (omega (arith, same-size)) (a .over r l)) (λ l. held-all r (a .within r l .0) (a .within r l .1)) (lt-or-le (sizeOf t) (length (h .sent))))
+      (λ e. bad (iff-false _ (in-range (t .rows) (t .columns) (t .k)) e)) (true-or-false (inRange (t .rows) (t .columns) (t .k)))
+
+  same-lump : (bs : List ℕ) (s : Step) → LumpDemands t bs s
+      → First ((1 when (Fine h → ⊥)) ∷ (9 when (whole h < length (h .sent ++ bs))) ∷ []) (s .number)
+  same-lump bs s d =
+      let more : length (h .sent ++ bs) ≡ length (h .sent) + length bs = length-append (h .sent) bs in
+      by-story (First ((1 when (Fine h → ⊥)) ∷ (9 when (whole h < length (h .sent ++ bs))) ∷ []) (s .number))
+      (λ n. record { found = inl (λ r. n (fine-good r), hit (d .first) n) })
+      (λ r l o. record { found = inr (λ n. n (good-fine r), inl (omega (arith, more), hit (miss (d .first) (λ n. n r)) (omega arith))) })
+      (λ r e f. record {
+        found = inr (λ n. n (good-fine r), ⊎-elim (λ (o, g). inl (omega (arith, same-size, more), g)) (λ (o, g). inr (λ l. o (omega (arith, same-size, more)), g)) (miss (d .first) (λ n. n r) .found));
+      })
+
+  module _ (out : List ℕ) (b : ReadAnswer) (after : List ℕ) (f : FinishesBy t out b after) where
+    -- refused by bad numbers or by too many bytes: nothing else of what is held counts
+    refused : (x : ℕ) → 0 < x → x ≢ 4 → b .number ≡ x → First (finishRefusals (t .rows) (t .columns) (t .k) (length (h .sent)) (h .sent) (length out)) x
+        → FinishDemands (t .rows) (t .columns) (t .k) (length (h .sent)) (h .sent) out b after
+    refused x l n p q = record {
+      first = subst (First _) (sym p) q;
+      names = record { first = λ z. absurd (n (sym p ∙ z)); none = f .names .none };
+      untouched = f .untouched;
+      inside = λ z. absurd (omega arith);
+      shows = λ z. absurd (omega arith);
+    }
+
+    same-finish : FinishDemands (h .rows) (h .columns) (h .k) (length (h .sent)) (h .sent) out b after
+    same-finish =
+        subst (λ X. X) (λ i. FinishDemands (a .told .rows i) (a .told .columns i) (a .told .levels i) (length (h .sent)) (h .sent) out b after)
+        (by-story (FinishDemands (t .rows) (t .columns) (t .k) (length (h .sent)) (h .sent) out b after)
+        (λ n. refused 1 (omega arith) (λ e. omega arith) (hit (f .first) n) (record { found = inl (n, refl) }))
+        (λ r l o. refused 9 (omega arith) (λ e. omega arith) (hit (miss (f .first) (λ n. n r)) o) (record { found = inr (λ n. n r, inl (omega (arith, same-size), refl)) }))
+        (λ r p q. subst (λ X. X) (λ i. FinishDemands (t .rows) (t .columns) (t .k) (p i) (q i) out b after) f))
+
+-- ---- the theorem
+
+pub every-lump : EveryLump
+every-lump t u m n k es bs s c d = same-lump (story (begun m n k) es) u (agree t u m n k es c) bs s d
+
+pub every-finish : EveryFinish
+every-finish t u m n k es out a after c f = same-finish (story (begun m n k) es) u (agree t u m n k es c) out a after f

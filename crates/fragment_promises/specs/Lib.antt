@@ -1,0 +1,4 @@
+pub mod Transfers
+pub mod Demands
+pub mod Promises
+pub mod Sequences

@@ -1,0 +1,87 @@
+-- What a start, a lump and a finish promise: how a call ends exactly, and what is demanded of it; and that nothing else meets that. Assumes nothing.
+use Prim.Native.Nat.{ℕ, _+_, _<_, _≤_}
+use mathlib.Core.Path.{_≡_}
+use mathlib.Core.List.{List}
+use lib.ListN.{length}
+use Rattle.rdis.specs.Cells.{reading}
+use Rattle.rdis.specs.Packing.{width, rowCounter, columnCounter}
+use Rattle.grid_promises.specs.Calls.{badIndex}
+use Rattle.grid_promises.specs.Refusals.{InRange}
+use Rattle.grid_promises.specs.Promises.{Read}
+use Rattle.grid_promises.specs.declared.ReadAnswer.{ReadAnswer}
+use Rattle.fragment_promises.specs.declared.Transfer.{Transfer}
+use Rattle.fragment_promises.specs.declared.Step.{Step}
+use Rattle.fragment_promises.specs.Transfers.{size, started, lumped, stepTo, held, countersOf, cellsOf, finishNumber}
+use Rattle.fragment_promises.specs.Demands.{StartDemands, LumpDemands, FinishDemands}
+
+-- ---- a start with these numbers
+
+pub record Start (m n k : ℕ) (s : Step) : Type 0 where
+  pub exactly : s ≡ stepTo (started m n k)
+  pub demands : StartDemands m n k s
+
+-- ---- a lump of these bytes, lent any record t, whoever made it
+
+pub record Lump (t : Transfer) (bs : List ℕ) (s : Step) : Type 0 where
+  pub exactly : s ≡ stepTo (lumped t bs)
+  pub demands : LumpDemands t bs s
+
+-- ---- a finish where so many bytes were taken and bs are those held: lent `out`, which holds `after` at the end. It hands no record back
+
+pub record FinishExactly (m n k taken : ℕ) (bs out : List ℕ) (answer : ReadAnswer) (after : List ℕ) : Type 0 where
+  -- the number, computed
+  pub number : answer .number ≡ finishNumber m n k taken bs (length out)
+  -- the index that goes with it
+  pub indexIs : answer .index ≡ badIndex k (m + n) (countersOf m n k bs) (answer .number)
+  -- a refusal leaves the output as it was
+  pub untouched : 0 < answer .number → after ≡ out
+  -- accepted: every cell, inverted where its counters say so, and 0 past the last column
+  pub shown : answer .number ≡ 0
+      → after ≡ reading m n (rowCounter (width k) (countersOf m n k bs)) (columnCounter (width k) m (countersOf m n k bs)) (cellsOf m n k bs)
+
+pub record Finish (m n k taken : ℕ) (bs out : List ℕ) (answer : ReadAnswer) (after : List ℕ) : Type 0 where
+  pub exactly : FinishExactly m n k taken bs out answer after
+  pub demands : FinishDemands m n k taken bs out answer after
+  -- a whole block: what the public read promises of its cell words and counters
+  pub ordinary : InRange m n k → taken ≤ size m n k → size m n k ≤ length bs → Read m n k (cellsOf m n k bs) (countersOf m n k bs) out answer after
+
+-- a finish of a record, and what is demanded of it
+abbrev pub Finishes : Transfer → List ℕ → ReadAnswer → List ℕ → Type 0
+Finishes t = Finish (t .rows) (t .columns) (t .k) (t .taken) (held t)
+
+abbrev pub FinishesBy : Transfer → List ℕ → ReadAnswer → List ℕ → Type 0
+FinishesBy t = FinishDemands (t .rows) (t .columns) (t .k) (t .taken) (held t)
+
+-- ---- no second answer: by the exact part
+
+abbrev pub OneStart : Type 0
+OneStart = (m n k : ℕ) (s s′ : Step) → Start m n k s → Start m n k s′ → s ≡ s′
+
+abbrev pub OneLump : Type 0
+OneLump = (t : Transfer) (bs : List ℕ) (s s′ : Step) → Lump t bs s → Lump t bs s′ → s ≡ s′
+
+abbrev pub OneFinish : Type 0
+OneFinish =
+    (m n k taken : ℕ) (bs out : List ℕ) (a a′ : ReadAnswer) (x x′ : List ℕ)
+    → FinishExactly m n k taken bs out a x → FinishExactly m n k taken bs out a′ x′ → (a ≡ a′) × (x ≡ x′)
+
+-- ---- nor one that keeps the demands alone
+
+abbrev pub OneStartByDemands : Type 0
+OneStartByDemands = (m n k : ℕ) (s s′ : Step) → StartDemands m n k s → StartDemands m n k s′ → s ≡ s′
+
+abbrev pub OneLumpByDemands : Type 0
+OneLumpByDemands = (t : Transfer) (bs : List ℕ) (s s′ : Step) → LumpDemands t bs s → LumpDemands t bs s′ → s ≡ s′
+
+abbrev pub OneFinishByDemands : Type 0
+OneFinishByDemands =
+    (m n k taken : ℕ) (bs out : List ℕ) (a a′ : ReadAnswer) (x x′ : List ℕ)
+    → FinishDemands m n k taken bs out a x → FinishDemands m n k taken bs out a′ x′ → (a ≡ a′) × (x ≡ x′)
+
+-- ---- what does not count
+
+-- of a finish's output only the length
+abbrev pub FinishMeasured : Type 0
+FinishMeasured =
+    (m n k taken : ℕ) (bs out out′ : List ℕ) (a a′ : ReadAnswer) (x x′ : List ℕ)
+    → length out ≡ length out′ → Finish m n k taken bs out a x → Finish m n k taken bs out′ a′ x′ → (a ≡ a′) × (a .number ≡ 0 → x ≡ x′)

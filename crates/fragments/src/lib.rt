@@ -1,0 +1,165 @@
+// A grid read of a block that arrives in lumps: a start, lumps of bytes cut anywhere, and a finish, which is the read of the joined bytes.
+use fragment_promises::LONGEST;
+use fragment_promises::Step;
+use fragment_promises::Transfer;
+use grid_promises::ReadAnswer;
+use grid_sets::LINES;
+use refusals::ACCEPTED;
+use refusals::LONG_BLOCK;
+use refusals::OUT_OF_RANGE;
+use refusals::SHORT_BLOCK;
+use refusals::WRONG_LENGTH;
+ghost use mathlib.Core.Path.{_≡_};
+ghost use Prim.Native.Nat.{_+_, _*_, _≤_};
+ghost use lib.ListN.{length, take};
+ghost use Rattle.bits.specs.First.{First};
+ghost use Rattle.grid_promises.specs.Refusals.{InRange};
+ghost use Rattle.grid_promises.specs.Promises.{Read};
+ghost use Rattle.fragment_promises.specs.Transfers.{counterBytes, size as sizeIs, standing as standingIs, extended, countersOf, cellsOf, wordsFrom};
+ghost use Rattle.fragment_promises.specs.Promises.{Start, Lump, Finishes};
+ghost use Rattle.fragments.specs.Steps.{unfinished as unfinishedBy};
+
+// After a refused lump so many bytes count as taken: more than any block has.
+const TOO_MANY: usize = LONGEST + 1;
+
+// How many bytes hold the counters of a block.
+fn counter_bytes(rows: usize, columns: usize, k: usize) -> usize
+    requires { ⌜ InRange rows columns k ⌝ }
+    ensures { λ r. ⌜ r ≡ counterBytes rows columns k ⌝ }
+{
+    grid_counters::bytes_of(k, rows + columns)
+}
+
+// The length of a block in bytes.
+fn size(rows: usize, columns: usize, k: usize) -> usize
+    requires { ⌜ InRange rows columns k ⌝ }
+    ensures { λ r. ⌜ r ≡ sizeIs rows columns k ⌝ }
+{
+    counter_bytes(rows, columns, k) + 8 * rows
+}
+
+// What a record stands at: 1, 9 or else 0.
+fn standing(rows: usize, columns: usize, k: usize, taken: usize) -> usize
+    ensures { λ r. ⌜ r ≡ standingIs rows columns k taken ⌝ }
+{
+    if !grid_checks::in_range(rows, columns, k) {
+        return OUT_OF_RANGE;
+    }
+    if taken > size(rows, columns, k) {
+        return LONG_BLOCK;
+    }
+    ACCEPTED
+}
+
+// Starts a transfer: no byte is taken yet.
+pub fn start(rows: usize, columns: usize, k: usize) -> Step
+    ensures { λ r. ⌜ Start rows columns k r ⌝ }
+{
+    let number = standing(rows, columns, k, 0);
+    let none = [0u8; LONGEST];
+    let transfer = Transfer {
+        rows,
+        columns,
+        k,
+        taken: 0,
+        bytes: none,
+    };
+    Step { number, transfer }
+}
+
+// The transfer with the bytes of a lump after those that were taken.
+fn extend(t: Transfer, bytes: &[u8]) -> Transfer
+    requires { ⌜ t .taken + length (now bytes) ≤ 560 ⌝ }
+    ensures { λ r. ⌜ r ≡ extended t (now (bytes .entry)) ⌝ }
+{
+    let at = t.taken;
+    let mut next = t;
+    let mut i = 0;
+    while i < bytes.len() {
+        next.bytes[at + i] = bytes[i];
+        i += 1;
+    }
+    next.taken = at + bytes.len();
+    next
+}
+
+// Takes a lump of bytes, or notes that it is refused. A transfer that stands at a refusal stays as it is.
+pub fn lump(t: Transfer, bytes: &[u8]) -> Step
+    ensures { λ r. ⌜ Lump t (now (bytes .entry)) r ⌝ }
+{
+    let taken = t.taken;
+    let number = standing(t.rows, t.columns, t.k, taken);
+    if number != ACCEPTED {
+        return Step {
+            number,
+            transfer: t,
+        };
+    }
+    if bytes.len() > size(t.rows, t.columns, t.k) - taken {
+        let mut noted = t;
+        noted.taken = TOO_MANY;
+        return Step {
+            number: LONG_BLOCK,
+            transfer: noted,
+        };
+    }
+    Step {
+        number: ACCEPTED,
+        transfer: extend(t, bytes),
+    }
+}
+
+// The refusal of a finish by numbers and lengths: 1, 9, 2, 8 or else 0.
+fn unfinished(rows: usize, columns: usize, k: usize, taken: usize, out: usize) -> usize
+    ensures { λ r. ⌜ First (unfinishedBy rows columns k taken out) r ⌝ }
+{
+    let number = standing(rows, columns, k, taken);
+    if number != ACCEPTED {
+        return number;
+    }
+    if out != rows {
+        return WRONG_LENGTH;
+    }
+    if taken < size(rows, columns, k) {
+        return SHORT_BLOCK;
+    }
+    ACCEPTED
+}
+
+// The first `count` words of 8 bytes, from byte `from` on, and 0 after them.
+fn words_from(bytes: &[u8], from: usize, count: usize) -> [u64; LINES]
+    requires { ⌜ (count ≤ 64) × (from ≤ 48) ⌝ }
+    ensures { λ r. ⌜ take count r ≡ wordsFrom from count (now (bytes .entry)) ⌝ }
+{
+    let mut all = [0u64; LINES];
+    let mut i = 0;
+    while i < count {
+        all[i] = words::load(bytes, from + 8 * i);
+        i += 1;
+    }
+    all
+}
+
+// The read of a whole block.
+fn read_whole(rows: usize, columns: usize, k: usize, bytes: &[u8], out: &mut [u64]) -> ReadAnswer
+    requires { ⌜ InRange rows columns k × (length (now bytes) ≡ sizeIs rows columns k) ⌝ }
+    ensures { λ r. ⌜ Read rows columns k (cellsOf rows columns k (now (bytes .entry))) (countersOf rows columns k (now (bytes .entry))) (now (out .entry)) r (now (out .exit)) ⌝ }
+{
+    let from = counter_bytes(rows, columns, k);
+    let cells = words_from(bytes, from, rows);
+    grid::read(rows, columns, k, &cells[..rows], &bytes[..from], out)
+}
+
+// Reads the block into `out` if all of it was taken.
+pub fn finish(t: Transfer, out: &mut [u64]) -> ReadAnswer
+    ensures { λ r. ⌜ Finishes t (now (out .entry)) r (now (out .exit)) ⌝ }
+{
+    let taken = t.taken;
+    let number = unfinished(t.rows, t.columns, t.k, taken, out.len());
+    if number != ACCEPTED {
+        return ReadAnswer { number, index: 0 };
+    }
+    // An array in a field is lent by a variable.
+    let held = t.bytes;
+    read_whole(t.rows, t.columns, t.k, &held[..taken], out)
+}
