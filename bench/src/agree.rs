@@ -1,4 +1,5 @@
-//! Whether archive, peer and second program agree: number, every count, the index and every buffer, call by call.
+//! Whether archive, peer and second program agree: number, every count, the index and every buffer, call by
+//! call; and of a transfer the number of each step.
 
 use std::fmt::Debug;
 
@@ -18,11 +19,11 @@ pub const SEED: u64 = 2026;
 /// How often each number from 0 to 13 came up, for each kind.
 pub type Tally = [[usize; 14]; KINDS.len()];
 
-/// The numbers that the report shows; 8 to 12 are no call's.
-const SHOWN: [usize; 9] = [0, 1, 2, 3, 4, 5, 6, 7, 13];
+/// The numbers that the report shows; 10 to 12 are no call's.
+const SHOWN: [usize; 11] = [0, 1, 2, 3, 4, 5, 6, 7, 8, 9, 13];
 
 /// Has all three make a call of one kind; the number, or what they said and did if they differ.
-fn compare<I: Input + Debug + PartialEq>(call: &I) -> Result<usize, String> {
+pub fn compare<I: Input + Debug + PartialEq>(call: &I) -> Result<usize, String> {
     let mut after = [call.clone(), call.clone(), call.clone()];
     let answers = [
         after[0].made_by::<Archive>(),
@@ -55,6 +56,7 @@ fn compare_any(call: &Call) -> Result<usize, String> {
         Call::GridRead(c) => compare(c),
         Call::GridStore(c) => compare(c),
         Call::GridConvert(c) => compare(c),
+        Call::Transfer(c) => compare(c),
     }
 }
 

@@ -1,12 +1,16 @@
-//! What the calls answer: the structs of `include/ernavluq.h`, field by field, for all three contestants.
+//! What the calls answer: the structs of `include/ernavluq.h`, field by field, for all three contestants; and what a whole
+//! transfer does, which is many calls.
 
 use std::fmt::Debug;
 
-/// An answer of some kind of call: a number, and the figures of that kind.
-pub trait Answer: Copy + Debug + PartialEq {
+/// An answer of some kind of call: a number, and what else that kind answers.
+pub trait Answer: Clone + Debug + PartialEq {
     /// The number: 0, or the refusal.
-    fn number(self) -> usize;
+    fn number(&self) -> usize;
+}
 
+/// An answer that has nothing but figures beside its number.
+pub trait Figures: Answer + Copy {
     /// The answer of a call that is refused: every figure is 0. With number 4 a grid call then puts its index in.
     fn refused(number: usize) -> Self;
 }
@@ -56,15 +60,32 @@ pub struct GridAnswer {
     pub index: usize,
 }
 
-/// Makes each of these structs an answer, so that what a refused one is stands once.
+/// What a whole transfer answers: the number and the index of its last finish, and the numbers of the first start and of
+/// each step of its script.
+#[derive(Clone, Debug, PartialEq, Eq)]
+pub struct TransferAnswer {
+    pub number: usize,
+    pub index: usize,
+    pub steps: Vec<u8>,
+}
+
+impl Answer for TransferAnswer {
+    fn number(&self) -> usize {
+        self.number
+    }
+}
+
+/// Makes each of these structs an answer of figures, so that what a refused one is stands once.
 macro_rules! answers {
     ($($answer:ty),*) => {$(
         impl Answer for $answer {
             #[inline(always)]
-            fn number(self) -> usize {
+            fn number(&self) -> usize {
                 self.number
             }
+        }
 
+        impl Figures for $answer {
             #[inline(always)]
             #[allow(clippy::needless_update)] // a pointer read has nothing but the number
             fn refused(number: usize) -> Self {

@@ -1,4 +1,4 @@
-//! The archive's six functions, as `include/ernavluq.h` declares them, over slices.
+//! The archive's six functions of whole rows and blocks, as `include/ernavluq.h` declares them, over slices.
 
 use crate::answers::{GridAnswer, GridConvertAnswer, GridReadAnswer};
 use crate::answers::{PointerReadAnswer, PointerWriteAnswer};

@@ -4,28 +4,30 @@ use second::call::Call;
 use second::make::Maker;
 use second::random::Random;
 use second::{cases_convert, cases_convert_refused, cases_levels, cases_wide_counters};
-use second::{cases_grid, cases_pointer, long};
+use second::{cases_grid, cases_pointer, cases_transfer, long};
 
-use crate::{calls_bad_counter, calls_convert, calls_grid, calls_pointer};
+use crate::{calls_bad_counter, calls_convert, calls_grid, calls_pointer, calls_transfer};
 
 /// The kinds of calls, by their tags less one.
-pub const KINDS: [&str; 6] = [
+pub const KINDS: [&str; 7] = [
     "pointer write",
     "pointer read",
     "grid plan",
     "grid read",
     "grid store",
     "grid convert",
+    "grid transfer",
 ];
 
-/// The numbers that a call of each kind can answer.
-pub const NUMBERS: [&[usize]; 6] = [
+/// The numbers that a call of each kind can answer; a transfer ends with its last finish.
+pub const NUMBERS: [&[usize]; 7] = [
     &[0, 1, 2, 3, 4, 5, 6],
     &[0, 1, 2, 3, 4, 5],
     &[0, 1, 2, 3, 7],
     &[0, 1, 2, 3, 4],
     &[0, 1, 2, 3, 4, 13],
     &[0, 1, 2, 3, 4],
+    &[0, 1, 2, 3, 4, 8, 9],
 ];
 
 /// The kind of a call.
@@ -37,6 +39,7 @@ pub fn kind_of(call: &Call) -> usize {
         Call::GridRead(_) => 3,
         Call::GridStore(_) => 4,
         Call::GridConvert(_) => 5,
+        Call::Transfer(_) => 6,
     }
 }
 
@@ -57,6 +60,7 @@ impl Calls {
             cases_wide_counters::all(),
             cases_convert::all(),
             cases_convert_refused::all(),
+            cases_transfer::all(),
         ];
         let cases = cases.into_iter().flatten();
         Calls {
@@ -75,7 +79,7 @@ impl Calls {
         if random.percent(80) {
             return self.maker.next_call();
         }
-        match random.below(12) {
+        match random.below(14) {
             0 | 1 => Call::PointerWrite(calls_pointer::rough_write(random)),
             2 | 3 => Call::PointerRead(calls_pointer::rough_read(random)),
             4 | 5 => Call::GridPlan(calls_grid::rough_plan(random)),
@@ -84,7 +88,8 @@ impl Calls {
             8 => Call::GridStore(calls_grid::rough_store(random)),
             9 => Call::GridStore(calls_bad_counter::store(random)),
             10 => Call::GridConvert(calls_convert::rough(random)),
-            _ => Call::GridConvert(calls_convert::damaged(random)),
+            11 => Call::GridConvert(calls_convert::damaged(random)),
+            _ => Call::Transfer(calls_transfer::rough(random)),
         }
     }
 }

@@ -83,9 +83,14 @@ pub fn lower_to_k([rows, columns, k]: [u64; 3], counters: &mut [u8]) {
     }
 }
 
-/// A grid read of any bits in a grid of any shape; in half of them no counter is above K.
+/// A grid read of any bits in a grid of any shape.
 pub fn rough_read(random: &mut Random) -> GridRead {
     let numbers = rough_numbers(random);
+    rough_read_of(random, numbers)
+}
+
+/// A grid read of any bits with these numbers; in half of them no counter is above K.
+pub fn rough_read_of(random: &mut Random, numbers: [u64; 3]) -> GridRead {
     let mut counters = rough_counters(random, numbers);
     if random.bit() {
         lower_to_k(numbers, &mut counters);

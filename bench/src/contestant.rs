@@ -1,10 +1,13 @@
 //! The three contestants under one set of names.
 
-use second::call::{GridConvert, GridPlan, GridRead, GridStore, PointerRead, PointerWrite};
+use second::call::{GridConvert, GridPlan, GridRead, GridStore};
+use second::call::{PointerRead, PointerWrite, Transfer};
 
 use crate::answers::{GridAnswer, GridConvertAnswer, GridReadAnswer};
-use crate::answers::{PointerReadAnswer, PointerWriteAnswer};
-use crate::{archive, peer};
+use crate::answers::{PointerReadAnswer, PointerWriteAnswer, TransferAnswer};
+use crate::archive_transfer::TransferStep;
+use crate::records::{PlainRecord, Record};
+use crate::{archive, peer, script};
 
 /// A number of a call as the machine's own word; they have the same 64 bits.
 #[inline(always)]
@@ -25,14 +28,22 @@ fn of_second(answer: second::grid::Answer) -> GridAnswer {
     }
 }
 
-/// Somebody who makes the six calls.
+/// Somebody who makes the six calls, and transfers.
 pub trait Contestant {
+    /// What carries a transfer from call to call.
+    type Record: Record;
+
     fn pointer_write(call: &mut PointerWrite) -> PointerWriteAnswer;
     fn pointer_read(call: &mut PointerRead) -> PointerReadAnswer;
     fn grid_plan(call: &mut GridPlan) -> GridAnswer;
     fn grid_read(call: &mut GridRead) -> GridReadAnswer;
     fn grid_store(call: &mut GridStore) -> GridAnswer;
     fn grid_convert(call: &mut GridConvert) -> GridConvertAnswer;
+
+    /// A whole transfer, step by step as its script says.
+    fn transfer(call: &mut Transfer) -> TransferAnswer {
+        script::run::<Self::Record>(call)
+    }
 }
 
 /// The archive under test.
@@ -45,6 +56,8 @@ pub struct Peer;
 pub struct Second;
 
 impl Contestant for Archive {
+    type Record = TransferStep;
+
     #[inline(always)]
     fn pointer_write(c: &mut PointerWrite) -> PointerWriteAnswer {
         let n = word(c.n);
@@ -95,6 +108,8 @@ impl Contestant for Archive {
 }
 
 impl Contestant for Peer {
+    type Record = peer::transfer::Transfer;
+
     #[inline(always)]
     fn pointer_write(c: &mut PointerWrite) -> PointerWriteAnswer {
         let n = word(c.n);
@@ -157,6 +172,8 @@ impl Contestant for Peer {
 }
 
 impl Contestant for Second {
+    type Record = PlainRecord;
+
     #[inline(always)]
     fn pointer_write(c: &mut PointerWrite) -> PointerWriteAnswer {
         let answer = second::pointer::write(
@@ -216,6 +233,16 @@ impl Contestant for Second {
         GridConvertAnswer {
             number: usize::from(answer.number),
             index: answer.index,
+        }
+    }
+
+    /// It has its own reading of scripts, against which this package's is held too.
+    fn transfer(c: &mut Transfer) -> TransferAnswer {
+        let answer = second::transfer::transfer(c.numbers, &c.bytes, &c.script, &mut c.output);
+        TransferAnswer {
+            number: usize::from(answer.number),
+            index: answer.index,
+            steps: answer.steps,
         }
     }
 }

@@ -1,9 +1,10 @@
 //! The calls as inputs that any contestant can be given, again and again.
 
-use second::call::{GridConvert, GridPlan, GridRead, GridStore, PointerRead, PointerWrite};
+use second::call::{GridConvert, GridPlan, GridRead, GridStore};
+use second::call::{PointerRead, PointerWrite, Transfer};
 
 use crate::answers::{Answer, GridAnswer, GridConvertAnswer, GridReadAnswer};
-use crate::answers::{PointerReadAnswer, PointerWriteAnswer};
+use crate::answers::{PointerReadAnswer, PointerWriteAnswer, TransferAnswer};
 use crate::contestant::Contestant;
 
 /// The arguments of one kind of call.
@@ -93,6 +94,19 @@ impl Input for GridConvert {
     }
 
     fn restore(&mut self, before: &GridConvert) {
+        self.output.copy_from_slice(&before.output);
+    }
+}
+
+impl Input for Transfer {
+    type Answer = TransferAnswer;
+
+    #[inline(always)]
+    fn made_by<C: Contestant>(&mut self) -> TransferAnswer {
+        C::transfer(self)
+    }
+
+    fn restore(&mut self, before: &Transfer) {
         self.output.copy_from_slice(&before.output);
     }
 }

@@ -5,6 +5,7 @@ use second::random::Random;
 use crate::inputs_convert;
 use crate::inputs_pointer::{self, Rows};
 use crate::scenarios_grid::{self, Seeded, SIZES};
+use crate::scenarios_transfer;
 use crate::table::Table;
 use crate::time::{time, Rounds, INPUTS};
 
@@ -14,10 +15,11 @@ const SEED: u64 = 7;
 /// The seed of what only stores need, so that all other inputs are those of the time when one write planned and stored.
 const STORE_SEED: u64 = 13;
 
-/// The seeds of the same at K = 7, and of the conversions: the inputs of before are as they were.
+/// The seeds of the same at K = 7, of the conversions and of the transfers: the inputs of before are as they were.
 const SEED_OF_SEVEN: u64 = 77;
 const STORE_SEED_OF_SEVEN: u64 = 713;
 const CONVERT_SEED: u64 = 78;
+const TRANSFER_SEED: u64 = 71;
 
 /// The scenarios of plans, stores and reads.
 fn grid_lines(table: &mut Table, random: &mut Random, rounds: Rounds) {
@@ -88,6 +90,7 @@ pub fn report(rounds: Rounds) {
     let mut table = Table::start();
     grid_lines(&mut table, random, rounds);
     convert_lines(&mut table, rounds);
+    scenarios_transfer::lines(&mut table, &mut Random::new(TRANSFER_SEED), rounds);
     pointer_lines(&mut table, random, rounds);
     table.print_summary();
 }

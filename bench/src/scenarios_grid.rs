@@ -34,7 +34,7 @@ fn lines_of_blocks(
     table.line("grid plan", group, scenario, planned);
     let stored = time(seeded.of_stores, &stores, rounds);
     table.line("grid store", group, scenario, stored);
-    table.sum("grid plan and store", scenario, planned + stored);
+    table.aside("grid plan and store", scenario, planned + stored);
     let read = time(seeded.random, &reads, rounds);
     table.line("grid read", group, scenario, read);
 }

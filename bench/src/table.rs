@@ -2,9 +2,9 @@
 
 use crate::time::Times;
 
-/// The ratio archive/peer of one line: its call, and what it is summed up with, as a K.
+/// A ratio of one line: what it is a ratio of, and what it is summed up with, as a K.
 struct Ratio {
-    call: &'static str,
+    of: String,
     group: String,
     value: f64,
 }
@@ -60,43 +60,64 @@ impl Table {
     /// Prints the line of a scenario of a call, and takes its ratio for the summary.
     pub fn line(&mut self, call: &'static str, group: &str, scenario: &str, times: Times) {
         let value = print_line(&format!("{call}, {scenario}"), times);
-        self.ratios.push(Ratio {
-            call,
-            group: String::from(group),
-            value,
-        });
+        self.take(format!("archive/peer, {call}"), group, value);
     }
 
-    /// Prints a line that is the sum of others, and so is not in the summary.
-    pub fn sum(&self, name: &str, scenario: &str, times: Times) {
+    /// Takes a ratio for the summary.
+    fn take(&mut self, of: String, group: &str, value: f64) {
+        let group = String::from(group);
+        self.ratios.push(Ratio { of, group, value });
+    }
+
+    /// Prints a line that the summary leaves out: the sum of others, or what others are held against.
+    pub fn aside(&self, name: &str, scenario: &str, times: Times) {
         print_line(&format!("{name}, {scenario}"), times);
     }
 
-    /// The sorted ratios of a call, of one group or of all.
-    fn sorted(&self, call: &str, group: Option<&str>) -> Vec<f64> {
+    /// Prints how many times a call takes what another takes, each contestant for itself, in the columns of their times;
+    /// takes the archive's for the summary.
+    pub fn times_over(
+        &mut self,
+        name: &'static str,
+        group: &str,
+        scenario: &str,
+        [times, over]: [Times; 2],
+    ) {
+        let value = times.archive / over.archive;
+        println!(
+            "| {:<46} | {:>8.2} x | {:>6.2} x | {:>7.1} x | {:>12} | {:>14} |",
+            format!("{name}, {scenario}"),
+            value,
+            times.peer / over.peer,
+            times.second / over.second,
+            "",
+            ""
+        );
+        self.take(format!("{name} of the archive"), group, value);
+    }
+
+    /// The sorted ratios of one kind, of one group or of all.
+    fn sorted(&self, of: &str, group: Option<&str>) -> Vec<f64> {
         let mut sorted: Vec<f64> = self
             .ratios
             .iter()
-            .filter(|ratio| ratio.call == call && group.is_none_or(|group| ratio.group == group))
+            .filter(|ratio| ratio.of == of && group.is_none_or(|group| ratio.group == group))
             .map(|ratio| ratio.value)
             .collect();
         sorted.sort_by(f64::total_cmp);
         sorted
     }
 
-    /// Prints for each call the smallest, the median and the largest ratio, and the median of each group.
+    /// Prints for each kind of ratio the smallest, the largest and the median, and the median of each group.
     pub fn print_summary(&self) {
         println!();
-        for call in different(self.ratios.iter().map(|ratio| ratio.call)) {
-            let all = self.sorted(call, None);
+        for of in different(self.ratios.iter().map(|ratio| ratio.of.as_str())) {
+            let all = self.sorted(of, None);
             let (least, most) = (all[0], all[all.len() - 1]);
-            print!(
-                "archive/peer, {call}: {least:.2} to {most:.2}, median {:.2}",
-                median(&all)
-            );
-            let of_call = self.ratios.iter().filter(|ratio| ratio.call == call);
-            for group in different(of_call.map(|ratio| ratio.group.as_str())) {
-                print!("; {group}: {:.2}", median(&self.sorted(call, Some(group))));
+            print!("{of}: {least:.2} to {most:.2}, median {:.2}", median(&all));
+            let of_kind = self.ratios.iter().filter(|ratio| ratio.of == of);
+            for group in different(of_kind.map(|ratio| ratio.group.as_str())) {
+                print!("; {group}: {:.2}", median(&self.sorted(of, Some(group))));
             }
             println!();
         }

@@ -40,25 +40,59 @@ impl Add for Times {
     }
 }
 
-/// The inputs of a scenario as they are before a call, those that calls are made on, and the order of a round.
+/// The inputs of a scenario as they are before a call, those that calls are made on, and the times so far: the archive's,
+/// the peer's and the second program's.
 struct Bed<I> {
     before: Vec<I>,
     inputs: Vec<I>,
-    order: Vec<usize>,
+    times: [Vec<f64>; 3],
 }
 
 impl<I: Input> Bed<I> {
-    /// One pass of a contestant over all inputs in the round's order: nanoseconds a call. Restoring is not timed.
+    /// A bed of these inputs.
+    fn new(inputs: &[I]) -> Bed<I> {
+        Bed {
+            before: inputs.to_vec(),
+            inputs: inputs.to_vec(),
+            times: Default::default(),
+        }
+    }
+
+    /// One pass of a contestant over all inputs in this order: nanoseconds a call. Restoring is not timed.
     #[inline(never)]
-    fn pass<C: Contestant>(&mut self) -> f64 {
+    fn pass<C: Contestant>(&mut self, order: &[usize]) -> f64 {
         for (input, before) in self.inputs.iter_mut().zip(&self.before) {
             input.restore(before);
         }
         let start = Instant::now();
-        for place in &self.order {
+        for place in order {
             black_box(black_box(&mut self.inputs[*place]).made_by::<C>());
         }
-        start.elapsed().as_nanos() as f64 / self.order.len() as f64
+        start.elapsed().as_nanos() as f64 / order.len() as f64
+    }
+
+    /// A round of all three in this order of inputs; in each round another contestant is first.
+    fn round(&mut self, round: usize, second_each: usize, order: &[usize]) {
+        for turn in 0..3 {
+            let contestant = (round + turn) % 3;
+            let time = match contestant {
+                0 => self.pass::<Archive>(order),
+                1 => self.pass::<Peer>(order),
+                _ if round.is_multiple_of(second_each) => self.pass::<Second>(order),
+                _ => continue,
+            };
+            self.times[contestant].push(time);
+        }
+    }
+
+    /// The medians of all rounds.
+    fn medians(&mut self) -> Times {
+        let [archive, peer, second] = &mut self.times;
+        Times {
+            archive: median(archive),
+            peer: median(peer),
+            second: median(second),
+        }
     }
 }
 
@@ -68,29 +102,33 @@ fn median(times: &mut [f64]) -> f64 {
     times[times.len() / 2]
 }
 
-/// Times all three on these inputs. Each round has a new order, the same for all, so that no sequence can be learnt;
-/// and another contestant is first.
+/// Times all three on these inputs. Each round has a new order, the same for all, so that no sequence can be learnt.
 pub fn time<I: Input>(random: &mut Random, inputs: &[I], rounds: Rounds) -> Times {
-    let mut bed = Bed {
-        before: inputs.to_vec(),
-        inputs: inputs.to_vec(),
-        order: Vec::new(),
-    };
-    let mut times: [Vec<f64>; 3] = Default::default();
+    let mut bed = Bed::new(inputs);
     for round in 0..rounds.count {
-        bed.order = random.order(inputs.len());
-        for turn in 0..3 {
-            match (round + turn) % 3 {
-                0 => times[0].push(bed.pass::<Archive>()),
-                1 => times[1].push(bed.pass::<Peer>()),
-                _ if round % rounds.second_each == 0 => times[2].push(bed.pass::<Second>()),
-                _ => {}
-            }
-        }
+        let order = random.order(inputs.len());
+        bed.round(round, rounds.second_each, &order);
     }
-    Times {
-        archive: median(&mut times[0]),
-        peer: median(&mut times[1]),
-        second: median(&mut times[2]),
+    bed.medians()
+}
+
+/// Times all three on these inputs, and in the same rounds on as many others: the machine's speed changes, and so the two
+/// can be told as a ratio.
+pub fn time_beside<I: Input, J: Input>(
+    random: &mut Random,
+    inputs: &[I],
+    others: &[J],
+    rounds: Rounds,
+) -> [Times; 2] {
+    let (mut bed, mut beside) = (Bed::new(inputs), Bed::new(others));
+    for round in 0..rounds.count {
+        // The other inputs were the last to be used. A quick pass that does not count, in an order of its own, brings these
+        // back to the caches, where `time` always has them.
+        let [order, uncounted] = [(); 2].map(|()| random.order(inputs.len()));
+        bed.pass::<Peer>(&uncounted);
+        bed.round(round, rounds.second_each, &order);
+        beside.pass::<Peer>(&uncounted);
+        beside.round(round, rounds.second_each, &order);
     }
+    [bed.medians(), beside.medians()]
 }

@@ -1,16 +1,19 @@
 //! Makes a call, checks what it did a second way, and tells the outcome in one line.
 
 use crate::bits::bit_of_bytes;
-use crate::call::{Call, GridConvert, GridPlan, GridRead, GridStore, PointerRead, PointerWrite};
-use crate::{check_convert, check_grid, convert, grid, pointer};
+use crate::call::{
+    Call, GridConvert, GridPlan, GridRead, GridStore, PointerRead, PointerWrite, Transfer,
+};
+use crate::{check_convert, check_grid, check_transfer, convert, grid, pointer, transfer};
 
-/// The outcome of a call: 0 or the refusal, the counts of a write, a plan or a store, and of a grid read,
-/// store or convert the index of the first counter above K.
+/// The outcome of a call: 0 or the refusal, the counts of a write, a plan or a store, of a grid read, store, convert
+/// or transfer the index of the first counter above K, and of a transfer the numbers of its steps.
 #[derive(Clone, Debug, PartialEq, Eq)]
 pub struct Outcome {
     pub number: u8,
     pub counts: Vec<usize>,
     pub index: Option<usize>,
+    pub steps: Vec<u8>,
 }
 
 /// Bytes as two hex digits each, or `-` if there are none.
@@ -64,6 +67,7 @@ fn make_pointer_write(call: &mut PointerWrite) -> Result<Outcome, String> {
         number: answer.number,
         counts: vec![answer.active, answer.new],
         index: None,
+        steps: vec![],
     })
 }
 
@@ -73,6 +77,7 @@ fn make_pointer_read(call: &mut PointerRead) -> Outcome {
         number: pointer::read(call.n, &call.cells, &call.metadata, &mut call.output),
         counts: vec![],
         index: None,
+        steps: vec![],
     }
 }
 
@@ -95,6 +100,7 @@ fn make_grid_plan(call: &mut GridPlan) -> Result<Outcome, String> {
         number: answer.number,
         counts: grid_counts(answer),
         index: None,
+        steps: vec![],
     })
 }
 
@@ -113,6 +119,7 @@ fn make_grid_store(call: &mut GridStore) -> Result<Outcome, String> {
         number: answer.number,
         counts: grid_counts(answer),
         index: Some(answer.index),
+        steps: vec![],
     })
 }
 
@@ -124,6 +131,7 @@ fn make_grid_read(call: &mut GridRead) -> Result<Outcome, String> {
         number: answer.number,
         counts: vec![],
         index: Some(answer.index),
+        steps: vec![],
     })
 }
 
@@ -136,6 +144,20 @@ fn make_grid_convert(call: &mut GridConvert) -> Result<Outcome, String> {
         number: answer.number,
         counts: vec![],
         index: Some(answer.index),
+        steps: vec![],
+    })
+}
+
+/// Makes a whole transfer and checks it.
+fn make_transfer(call: &mut Transfer) -> Result<Outcome, String> {
+    let output_before = call.output.clone();
+    let answer = transfer::transfer(call.numbers, &call.bytes, &call.script, &mut call.output);
+    check_transfer::check_transfer(call, &output_before, &answer)?;
+    Ok(Outcome {
+        number: answer.number,
+        counts: vec![],
+        index: Some(answer.index),
+        steps: answer.steps,
     })
 }
 
@@ -148,6 +170,7 @@ pub fn make(call: &mut Call) -> Result<Outcome, String> {
         Call::GridRead(c) => make_grid_read(c),
         Call::GridStore(c) => make_grid_store(c),
         Call::GridConvert(c) => make_grid_convert(c),
+        Call::Transfer(c) => make_transfer(c),
     }
 }
 
@@ -167,6 +190,10 @@ pub fn line(call: &Call, outcome: &Outcome) -> String {
         Call::GridRead(c) => parts.push(hex_of_words(&c.output)),
         Call::GridStore(c) => parts.push(hex_of_words(&c.cells)),
         Call::GridConvert(c) => parts.push(hex_of_bytes(&c.output)),
+        Call::Transfer(c) => {
+            parts.push(hex_of_words(&c.output));
+            parts.push(hex_of_bytes(&outcome.steps));
+        }
     }
     parts.join(" ")
 }

@@ -63,7 +63,16 @@ pub struct GridConvert {
     pub output: Vec<u8>,
 }
 
-/// One call of one of the six functions of documents 01 and 02.
+/// A whole transfer of a block in lumps, tag 7; the numbers are rows, columns and K, and the script is a byte a step.
+#[derive(Clone, Debug, PartialEq, Eq)]
+pub struct Transfer {
+    pub numbers: [u64; 3],
+    pub bytes: Vec<u8>,
+    pub script: Vec<u8>,
+    pub output: Vec<u64>,
+}
+
+/// One call of one of the six functions of documents 01 and 02, or one whole transfer.
 #[derive(Clone, Debug, PartialEq, Eq)]
 pub enum Call {
     PointerWrite(PointerWrite),
@@ -72,6 +81,7 @@ pub enum Call {
     GridRead(GridRead),
     GridStore(GridStore),
     GridConvert(GridConvert),
+    Transfer(Transfer),
 }
 
 /// Why no call could be taken from the input.
@@ -193,6 +203,12 @@ pub fn next_call(input: &mut impl Read) -> Result<Option<Call>, Trouble> {
             counters: next_bytes(input)?,
             output: next_bytes(input)?,
         }),
+        7 => Call::Transfer(Transfer {
+            numbers: next_numbers(input)?,
+            bytes: next_bytes(input)?,
+            script: next_bytes(input)?,
+            output: next_words(input)?,
+        }),
         _ => return Err(Trouble::BadCall),
     };
     Ok(Some(call))
@@ -270,6 +286,12 @@ pub fn put_call(output: &mut impl Write, call: &Call) -> io::Result<()> {
             output.write_all(&[6])?;
             put_numbers(output, &c.numbers)?;
             put_bytes(output, &[&c.counters, &c.output])
+        }
+        Call::Transfer(c) => {
+            output.write_all(&[7])?;
+            put_numbers(output, &c.numbers)?;
+            put_bytes(output, &[&c.bytes, &c.script])?;
+            put_words(output, &[&c.output])
         }
     }
 }

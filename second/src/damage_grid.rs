@@ -131,7 +131,7 @@ fn damage_lengths(random: &mut Random, words: &mut [&mut Vec<u64>], counters: &m
 }
 
 /// Sets bits past the last column in one word: the first such bit, the highest, any one or all.
-fn set_bits_past(random: &mut Random, columns: u64, words: &mut [u64]) {
+pub fn set_bits_past(random: &mut Random, columns: u64, words: &mut [u64]) {
     if columns >= 64 || words.is_empty() {
         return;
     }

@@ -1,4 +1,5 @@
-//! The commands: `run` makes the calls on standard input, `make`, `cases`, `long` and `levels` put calls out.
+//! The commands: `run` makes the calls on standard input; `make`, `cases`, `long`, `levels` and `fragments` put calls
+//! out.
 
 use std::io::{self, BufReader, BufWriter, Write};
 use std::process::ExitCode;
@@ -7,10 +8,10 @@ use second::answer;
 use second::call::{next_call, put_call, Call, Trouble};
 use second::make::Maker;
 use second::{cases_convert, cases_convert_refused, cases_levels, cases_wide_counters};
-use second::{cases_grid, cases_pointer, long};
+use second::{cases_grid, cases_pointer, cases_transfer, long};
 
-const USAGE: &str = "usage: second run < calls | second make SEED COUNT [3] > calls \
-    | second cases > calls | second long > calls | second levels > calls";
+const USAGE: &str = "usage: second run < calls | second make SEED COUNT [whole | 3] > calls \
+    | second cases > calls | second long > calls | second levels > calls | second fragments > calls";
 
 /// Makes each call on the input and prints one line a call, until the input ends or a call is bad.
 fn run(output: &mut impl Write) -> Result<(), String> {
@@ -74,6 +75,14 @@ fn levels(output: &mut impl Write) -> Result<(), String> {
     Ok(())
 }
 
+/// Puts out the calls of the cases of document 02, A1.
+fn fragments(output: &mut impl Write) -> Result<(), String> {
+    for (_, call) in &cases_transfer::all() {
+        put(output, call)?;
+    }
+    Ok(())
+}
+
 /// Puts out the calls with long buffers.
 fn put_long(output: &mut impl Write) -> Result<(), String> {
     for call in &long::all() {
@@ -90,10 +99,12 @@ fn main() -> ExitCode {
     let done = match words.as_slice() {
         ["run"] => run(&mut output),
         ["make", seed, count] => make(Maker::new, seed, count, &mut output),
+        ["make", seed, count, "whole"] => make(Maker::of_whole_blocks, seed, count, &mut output),
         ["make", seed, count, "3"] => make(Maker::of_three_levels, seed, count, &mut output),
         ["cases"] => cases(&mut output),
         ["long"] => put_long(&mut output),
         ["levels"] => levels(&mut output),
+        ["fragments"] => fragments(&mut output),
         _ => Err(String::from(USAGE)),
     };
     let flushed = output.flush().map_err(|error| error.to_string());

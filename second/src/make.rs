@@ -1,11 +1,12 @@
-//! Makes calls of all six tags, sound and damaged, that depend on a seed alone; and those of the five tags and three
-//! levels that there were before A8, as they were made then.
+//! Makes calls of all seven tags, sound and damaged, that depend on a seed alone; those of the six tags that there were
+//! before transfers; and those of the five tags and three levels before A8, each as they were made then.
 
-use crate::call::{Call, GridPlan, GridStore, PointerWrite};
+use crate::call::{Call, GridPlan, GridRead, GridStore, PointerWrite};
 use crate::counters::MOST_LEVELS;
 use crate::random::Random;
-use crate::{damage_convert, damage_counters, damage_grid, damage_pointer, grid, pointer};
-use crate::{make_convert, make_grid, make_plan, make_pointer, make_store};
+use crate::{damage_convert, damage_counters, damage_grid, damage_pointer, damage_transfer};
+use crate::{grid, pointer};
+use crate::{make_convert, make_grid, make_plan, make_pointer, make_store, make_transfer};
 
 /// How many rows, plans and grids are remembered for later calls.
 const MOST_KEPT: usize = 6;
@@ -16,10 +17,19 @@ const MOST_LEVELS_BEFORE: usize = 3;
 /// So many stores, reads and conversions in a hundred get counters above K before any other damage.
 const PERCENT_WITH_BAD_COUNTERS: usize = 20;
 
+/// So many calls in a hundred are transfers, where there are any.
+const PERCENT_OF_TRANSFERS: usize = 43;
+
+/// So many transfers in a hundred get a block with damage, other numbers, and an output of another length.
+const PERCENT_WITH_DAMAGED_BLOCK: usize = 20;
+const PERCENT_WITH_OTHER_NUMBERS: usize = 12;
+const PERCENT_WITH_OTHER_OUTPUT: usize = 10;
+
 /// Makes calls one after another and remembers what accepted writes, plans and stores left.
 pub struct Maker {
     random: Random,
     greatest: usize,
+    has_transfers: bool,
     rows: Vec<PointerWrite>,
     plans: Vec<GridPlan>,
     grids: Vec<GridStore>,
@@ -56,6 +66,14 @@ fn damages(random: &mut Random) -> usize {
 impl Maker {
     /// A maker of calls of all tags with K up to 7, which depend on the seed alone.
     pub fn new(seed: u64) -> Maker {
+        Maker {
+            has_transfers: true,
+            ..Maker::of_whole_blocks(seed)
+        }
+    }
+
+    /// A maker of the calls of before A1, with K up to 7 and without transfers, byte for byte as they were.
+    pub fn of_whole_blocks(seed: u64) -> Maker {
         Maker::up_to(seed, MOST_LEVELS as usize)
     }
 
@@ -69,6 +87,7 @@ impl Maker {
         Maker {
             random: Random::new(seed),
             greatest,
+            has_transfers: false,
             rows: Vec::new(),
             plans: Vec::new(),
             grids: Vec::new(),
@@ -77,6 +96,9 @@ impl Maker {
 
     /// The next call.
     pub fn next_call(&mut self) -> Call {
+        if self.has_transfers && self.random.percent(PERCENT_OF_TRANSFERS) {
+            return self.transfer();
+        }
         let kind = self.random.below(100);
         if self.greatest == MOST_LEVELS_BEFORE {
             return match kind {
@@ -198,8 +220,8 @@ impl Maker {
         Call::GridStore(call)
     }
 
-    /// A grid read, often of what a store left.
-    fn grid_read(&mut self) -> Call {
+    /// A sound read, often of what a store left, but at times with counters above K.
+    fn some_read(&mut self) -> GridRead {
         let random = &mut self.random;
         let greatest = self.greatest;
         let mut call = match recalled(random, &self.grids, 45) {
@@ -210,6 +232,14 @@ impl Maker {
             let numbers = &mut call.numbers;
             damage_counters::put_bad_counters(random, greatest, numbers, &mut call.counters);
         }
+        call
+    }
+
+    /// A grid read.
+    fn grid_read(&mut self) -> Call {
+        let mut call = self.some_read();
+        let random = &mut self.random;
+        let greatest = self.greatest;
         for _ in 0..damages(random) {
             damage_grid::damage_read(random, greatest, &mut call);
         }
@@ -233,5 +263,24 @@ impl Maker {
             damage_convert::damage_convert(random, &mut call);
         }
         Call::GridConvert(call)
+    }
+
+    /// A transfer of a block that a read could have.
+    fn transfer(&mut self) -> Call {
+        let mut read = self.some_read();
+        let random = &mut self.random;
+        if random.percent(PERCENT_WITH_DAMAGED_BLOCK) {
+            for _ in 0..random.between(1, 2) {
+                damage_transfer::damage_block(random, &mut read);
+            }
+        }
+        let mut call = make_transfer::transfer_of(random, &read);
+        if random.percent(PERCENT_WITH_OTHER_OUTPUT) {
+            damage_transfer::damage_output(random, &mut call);
+        }
+        if random.percent(PERCENT_WITH_OTHER_NUMBERS) {
+            damage_transfer::damage_numbers(random, &mut call);
+        }
+        Call::Transfer(call)
     }
 }

@@ -3,6 +3,8 @@
 use std::io::Write;
 use std::process::{Command, Output, Stdio};
 
+use second::call::{next_call, Call};
+
 /// Runs the program with these arguments and this input.
 fn second(arguments: &[&str], input: &[u8]) -> Output {
     let mut child = Command::new(env!("CARGO_BIN_EXE_second"))
@@ -105,6 +107,35 @@ fn conversions_print_an_index_and_the_output() {
     }
 }
 
+/// A transfer of one cell, K = 1, of the bytes of G2 and one more, with this script: the bytes, written out.
+fn transfer_of_g2(script: &[u8]) -> Vec<u8> {
+    let mut bytes = vec![7];
+    for number in [1u8, 1, 1] {
+        bytes.extend([number, 0, 0, 0, 0, 0, 0, 0]);
+    }
+    bytes.extend([10, 0, 3, 0, 0, 0, 0, 0, 0, 0, 0, 7]);
+    bytes.extend([script.len() as u8, 0]);
+    bytes.extend(script);
+    bytes.extend([1, 0, 9, 0, 0, 0, 0, 0, 0, 0]);
+    bytes
+}
+
+#[test]
+fn transfers_print_an_index_the_output_and_the_steps() {
+    let before = "0000000000000009";
+    let shown = "0000000000000001";
+    let call = transfer_of_g2(&[4, 255, 5]);
+    assert_eq!(call.len(), 52);
+    assert_eq!(printed(&call), format!("0 0 {shown} 00000800\n"));
+    let short = transfer_of_g2(&[]);
+    assert_eq!(printed(&short), format!("8 0 {before} 00\n"));
+    let over = transfer_of_g2(&[9, 255, 1, 0, 255]);
+    assert_eq!(printed(&over), format!("9 0 {shown} 000000090909\n"));
+    for length in 1..call.len() {
+        assert_eq!(printed(&call[..length]), "bad call\n");
+    }
+}
+
 #[test]
 fn bad_calls_stop_the_run() {
     let good = one_cell_read();
@@ -114,7 +145,7 @@ fn bad_calls_stop_the_run() {
         let after_good = [&good, &good[..length]].concat();
         assert_eq!(printed(&after_good), format!("{line}bad call\n"));
     }
-    for tag in [0, 7, 255] {
+    for tag in [0, 8, 255] {
         let input = [good.clone(), vec![tag], good.clone()].concat();
         assert_eq!(printed(&input), format!("{line}bad call\n"));
     }
@@ -163,6 +194,30 @@ fn made_calls_run_to_the_end() {
 }
 
 #[test]
+fn only_without_a_word_more_are_transfers_made() {
+    let has_transfers = |arguments: &[&str]| {
+        let made = second(arguments, &[]).stdout;
+        let mut input = made.as_slice();
+        let mut found = false;
+        while let Some(call) = next_call(&mut input).unwrap() {
+            found |= matches!(call, Call::Transfer(_));
+        }
+        found
+    };
+    assert!(has_transfers(&["make", "7", "100"]));
+    assert!(!has_transfers(&["make", "7", "2000", "whole"]));
+    assert!(!has_transfers(&["make", "7", "2000", "3"]));
+}
+
+#[test]
+fn cases_of_fragments_run_to_the_end() {
+    let cases = second(&["fragments"], &[]).stdout;
+    let lines = printed(&cases);
+    assert_eq!(lines.lines().count(), 283);
+    assert!(!lines.contains("bad call"));
+}
+
+#[test]
 fn cases_run_to_the_end() {
     let cases = second(&["cases"], &[]).stdout;
     assert_eq!(printed(&cases).lines().count(), 60 + 277);
@@ -193,6 +248,8 @@ fn unknown_commands_fail() {
         &["make", "1"],
         &["make", "x", "1"],
         &["make", "1", "1", "4"],
+        &["make", "1", "1", "half"],
+        &["fragments", "1"],
     ] {
         assert!(!second(arguments, &[]).status.success());
     }

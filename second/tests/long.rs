@@ -26,6 +26,7 @@ fn lengths(call: &Call) -> Vec<usize> {
             c.cells.len(),
         ],
         Call::GridConvert(c) => vec![c.counters.len(), c.output.len()],
+        Call::Transfer(_) => panic!("transfers came later"),
     }
 }
 
@@ -60,7 +61,9 @@ fn shorten(call: &mut Call) {
             c.counters.truncate(2);
             c.output.truncate(3);
         }
-        Call::GridConvert(_) => unreachable!("no conversion is among the long calls"),
+        Call::GridConvert(_) | Call::Transfer(_) => {
+            unreachable!("no conversion is among the long calls")
+        }
     }
 }
 

@@ -1,5 +1,5 @@
-//! What the maker makes: the same calls for the same seed, every answer often enough, levels at their bounds, and calls
-//! of low mean size.
+//! What the maker makes of whole blocks and rows: the same calls for the same seed, every answer often enough, levels
+//! at their bounds, and calls of low mean size.
 
 use std::cmp::Ordering;
 use std::collections::BTreeMap;
@@ -23,7 +23,7 @@ const CAN_BE_GIVEN: [(usize, &[u8]); 6] = [
 
 /// The bytes of so many calls of a seed.
 fn bytes_of(seed: u64, count: usize) -> Vec<u8> {
-    let mut maker = Maker::new(seed);
+    let mut maker = Maker::of_whole_blocks(seed);
     let mut bytes = Vec::new();
     for _ in 0..count {
         put_call(&mut bytes, &maker.next_call()).unwrap();
@@ -40,6 +40,7 @@ fn tag(call: &Call) -> usize {
         Call::GridRead(_) => 4,
         Call::GridStore(_) => 5,
         Call::GridConvert(_) => 6,
+        Call::Transfer(_) => panic!("a transfer is not a whole block"),
     }
 }
 

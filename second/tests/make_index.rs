@@ -139,7 +139,7 @@ impl Found {
 
 #[test]
 fn bad_counters_of_every_kind_come_up_often() {
-    let mut maker = Maker::new(4);
+    let mut maker = Maker::of_whole_blocks(4);
     let mut found = Found::default();
     for _ in 0..COUNT {
         let call = maker.next_call();

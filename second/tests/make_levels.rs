@@ -38,7 +38,7 @@ fn is_one_too_many(plan: &GridPlan) -> bool {
 
 #[test]
 fn every_number_of_levels_comes_up_at_many_sizes() {
-    let mut maker = Maker::new(11);
+    let mut maker = Maker::of_whole_blocks(11);
     let mut accepted = BTreeMap::new();
     let mut levels = BTreeMap::new();
     let mut sizes: BTreeMap<usize, Vec<u64>> = BTreeMap::new();
@@ -99,7 +99,7 @@ fn conversion_key(call: &GridConvert) -> (u64, u64, bool) {
 
 #[test]
 fn every_k_is_converted_to_every_target_often() {
-    let mut maker = Maker::new(12);
+    let mut maker = Maker::of_whole_blocks(12);
     let mut pairs = BTreeMap::new();
     let mut with_spare_bit = 0;
     let mut widths = BTreeMap::new();

@@ -1,10 +1,15 @@
-//! The calls that were stored before A8 are still made byte for byte: their lengths and a digest of their bytes.
+//! The calls that were stored before A8 and before A1 are still made byte for byte: their lengths and a digest of their
+//! bytes.
 
 use std::process::Command;
 
-/// The lengths of the stored parts, and the digest of them all.
+/// The lengths of the parts stored before A8, and the digest of them all.
 const LENGTHS: [usize; 3] = [71_710, 1_628_440, 133_437];
 const DIGEST: u64 = 0xb66d_45a3_9635_88c9;
+
+/// The same of the parts that were added with A8.
+const LENGTHS_OF_LEVELS: [usize; 2] = [124_735, 636_173];
+const DIGEST_OF_LEVELS: u64 = 0x5021_ea6f_75fb_da31;
 
 /// What the program puts out for these arguments.
 fn put_out(arguments: &[&str]) -> Vec<u8> {
@@ -32,6 +37,30 @@ fn the_calls_stored_before_seven_levels_are_made_as_they_were() {
     ];
     assert_eq!(parts.each_ref().map(Vec::len), LENGTHS);
     assert_eq!(digest(&parts.concat()), DIGEST);
+}
+
+#[test]
+fn the_calls_stored_before_transfers_are_made_as_they_were() {
+    let parts = [
+        put_out(&["levels"]),
+        put_out(&["make", "2027", "3000", "whole"]),
+    ];
+    assert_eq!(parts.each_ref().map(Vec::len), LENGTHS_OF_LEVELS);
+    assert_eq!(digest(&parts.concat()), DIGEST_OF_LEVELS);
+}
+
+#[test]
+fn the_calls_of_transfers_are_made_alike_each_time() {
+    for arguments in [&["fragments"][..], &["make", "2028", "3000"]] {
+        assert_eq!(put_out(arguments), put_out(arguments));
+    }
+}
+
+#[test]
+fn without_the_word_whole_other_calls_are_made() {
+    let before = put_out(&["make", "2027", "100", "whole"]);
+    let now = put_out(&["make", "2027", "100"]);
+    assert_ne!(before, now);
 }
 
 #[test]

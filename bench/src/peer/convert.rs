@@ -12,7 +12,7 @@ const LOW_HALF: u64 = 0xffff_ffff;
 
 /// The bits of a counter at K.
 #[inline(always)]
-fn width_of(k: usize) -> usize {
+pub fn width_of(k: usize) -> usize {
     1 + usize::from(k > 1) + usize::from(k > 3)
 }
 

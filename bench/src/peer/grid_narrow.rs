@@ -6,7 +6,7 @@ use super::counters::{
     load_single, store_double, store_single, store_zeros,
 };
 use super::levels::{levels_of, Block};
-use crate::answers::{Answer, GridAnswer};
+use crate::answers::{Figures, GridAnswer};
 
 /// Whether rows, columns or K lie outside their range; 0 wraps round to the largest number.
 #[inline(always)]

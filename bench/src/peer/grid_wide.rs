@@ -4,7 +4,7 @@ use super::block::{accepted, has_bit_past, masked_faults};
 use super::levels::{levels_of, Block};
 use super::planes::{counter_at, place_of, row_at, Planes};
 use super::wide::{self, bytes_of, first_above, has_spare};
-use crate::answers::{Answer, GridAnswer};
+use crate::answers::{Figures, GridAnswer};
 
 /// Whether rows, columns or K, which is 4 or more, lie outside their range; 0 wraps round to the largest number.
 #[inline(always)]

@@ -1,6 +1,7 @@
-//! The peer: the six calls of documents 01 and 02 as somebody would write them for speed alone, word by word and without proofs.
+//! The peer: the calls of documents 01 and 02 as somebody would write them for speed alone, word by word and without proofs.
 //!
-//! It keeps no state and allocates nothing, and judges the refusals in the order of their numbers.
+//! It keeps no state and allocates nothing, and judges the refusals in the order of their numbers; a transfer is kept by its
+//! caller, and its finish has an order of its own.
 
 mod block;
 mod bytes;
@@ -12,4 +13,5 @@ mod grid_wide;
 mod levels;
 mod planes;
 pub mod pointer;
+pub mod transfer;
 mod wide;

@@ -1,7 +1,7 @@
 //! The peer's pointer rows: a row as eight words, and its metadata as one double word.
 
 use super::bytes::{load, store};
-use crate::answers::{Answer, PointerWriteAnswer};
+use crate::answers::{Figures, PointerWriteAnswer};
 
 /// A row of 512 cells as words; position p is bit p mod 64 of word p / 64.
 type Row = [u64; 8];

@@ -2,7 +2,7 @@
 
 use std::fmt::Debug;
 
-use bench::answers::{Answer, GridAnswer, GridReadAnswer};
+use bench::answers::{Figures, GridAnswer, GridReadAnswer};
 use bench::contestant::Contestant;
 use bench::input::Input;
 use second::call::{GridPlan, GridRead, GridStore};
@@ -57,7 +57,10 @@ pub fn answers_unaltered<C: Contestant, I: Input + PartialEq + Debug>(call: &I, 
 }
 
 /// Has the call refused with this number, every figure 0, and checks that it is unaltered.
-pub fn refuses<C: Contestant, I: Input + PartialEq + Debug>(call: &I, number: usize) {
+pub fn refuses<C: Contestant, I: Input + PartialEq + Debug>(call: &I, number: usize)
+where
+    I::Answer: Figures,
+{
     answers_unaltered::<C, _>(call, I::Answer::refused(number));
 }
 

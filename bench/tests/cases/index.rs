@@ -1,6 +1,6 @@
 //! Which counter is the first above K, of document 02, A4: reads and stores of the same counters, at K = 2 four to a byte.
 
-use bench::answers::{Answer, GridAnswer, GridReadAnswer};
+use bench::answers::{Figures, GridAnswer, GridReadAnswer};
 use bench::contestant::Contestant;
 use bench::input::Input;
 use second::call::{GridPlan, GridRead, GridStore};

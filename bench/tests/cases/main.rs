@@ -1,5 +1,6 @@
-//! The cases of document 01, and of document 02 stores of A7, fault counts of A9, indices of A4, and seven levels and
-//! conversions of A8, written out by hand: the peer answers them as the papers say, and so do the other two.
+//! The cases of document 01, and of document 02 stores of A7, fault counts of A9, indices of A4, seven levels and
+//! conversions of A8, and transfers of A1, written out by hand: the peer answers them as the papers say, and so do the other
+//! two.
 
 mod blocks;
 mod convert;
@@ -9,6 +10,7 @@ mod index;
 mod index_wide;
 mod levels;
 mod pointer;
+mod transfer;
 
 use bench::contestant::{Archive, Contestant, Peer, Second};
 
@@ -33,6 +35,13 @@ fn answers_the_cases<C: Contestant>() {
     convert::numbers::<C>();
     convert::lengths::<C>();
     convert::counters::<C>();
+    transfer::accepted::<C>();
+    transfer::short::<C>();
+    transfer::over::<C>();
+    transfer::starts::<C>();
+    transfer::numbers::<C>();
+    transfer::outputs::<C>();
+    transfer::contents::<C>();
 }
 
 #[test]

@@ -32,6 +32,15 @@ pub first-one : (rs : List Refusal) (x y : ℕ) → First rs x → First rs y �
 first-one [] x y r s = missed r ∙ sym (missed s)
 first-one ((o when P) ∷ rs) x y r s = ⊎-elim (λ (h, e). e ∙ sym (hit s h)) (λ (h, f). first-one rs x y (record { found = f }) (miss s h)) (r .found)
 
+-- where every number is below b, so is this one
+abbrev pub Under : ℕ → List Refusal → Type 0
+Under b [] = 0 < b
+Under b ((o when P) ∷ rs) = (o < b) × Under b rs
+
+pub first-under : (b : ℕ) (rs : List Refusal) (x : ℕ) → Under b rs → First rs x → x < b
+first-under b [] x u r = omega (arith, missed r)
+first-under b ((o when P) ∷ rs) x (u, us) r = ⊎-elim (λ (h, e). omega arith) (λ (h, f). first-under b rs x us (record { found = f })) (r .found)
+
 -- ---- found by tests in turn: those after a line may assume that it does not apply
 
 pub first-test : (o x : ℕ) (P : Type 0) (rs : List Refusal) (t : Bool) → (t ≡ true) ↔ P → ((P → ⊥) → First rs x) → First ((o when P) ∷ rs) (cond t o x)

@@ -2,7 +2,7 @@
 use mathlib.Core.Path.{_≡_, refl, sym, ap, ap₂, subst, transport, _∙_}
 use mathlib.Core.Bool.{Bool, true, false, not, cond, _&&_, _||_}
 use mathlib.Core.List.{List, [], _∷_}
-use Prim.Native.Nat.{ℕ, zero, suc, _+_, _-_, _*_, _≤_, _<_}
+use Prim.Native.Nat.{ℕ, zero, suc, zero-le, suc-le-suc, _+_, _-_, _*_, _≤_, _<_}
 use native.Mathlib.Nat.{le-trans, mul-le-mul-left}
 use native.Mathlib.Numerals.{add-one}
 use native.Mathlib.Omega.{arith}
@@ -138,13 +138,17 @@ small-form tag = small-at table refl tag
 pub small-by : {f : Form} (tag : ℕ) → f ≡ formOf tag → Small f
 small-by tag e = subst Small (sym e) (small-form tag)
 
-pub no-form : (tag : ℕ) → (tag ≡ 1 → ⊥) → (tag ≡ 2 → ⊥) → (tag ≡ 3 → ⊥) → (tag ≡ 4 → ⊥) → (tag ≡ 5 → ⊥) → (tag ≡ 6 → ⊥) → noForm ≡ formOf tag
+-- a number that is no smaller and another one is greater
+above : (n tag : ℕ) → n ≤ tag → (tag ≡ n → ⊥) → suc n ≤ tag
+above n tag l h = omega arith
+
+pub no-form : (tag : ℕ) → (tag ≡ 1 → ⊥) → (tag ≡ 2 → ⊥) → (tag ≡ 3 → ⊥) → (tag ≡ 4 → ⊥) → (tag ≡ 5 → ⊥) → (tag ≡ 6 → ⊥) → (tag ≡ 7 → ⊥) → noForm ≡ formOf tag
 unfolding formOf table
-no-form tag a b c d e f =
-    elim (decLt tag 1) [
-      | yes l ↦ let z : tag ≡ 0 = omega arith in rw z
-      | no l ↦ sym (List·getD-eq-default table noForm {n = tag} (omega arith))
-    ]
+no-form zero a b c d e f g = refl
+no-form (suc tag) a b c d e f g =
+    let t : ℕ = suc tag in
+    let past = above 7 t (above 6 t (above 5 t (above 4 t (above 3 t (above 2 t (above 1 t (suc-le-suc zero-le) a) b) c) d) e) f) g in
+    sym (List·getD-eq-default table noForm {n = suc tag} past)
 
 -- the end of a call, whichever way it is judged
 pub form-cases : (bs : List ℕ) (f : Form) (P : ℕ → Type 0) → P (placeOf bs f (f .buffers)) → P 0 → P (formEnd bs f)

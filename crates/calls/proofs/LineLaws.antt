@@ -18,11 +18,12 @@ use Rattle.wire.proofs.NumberLaws.{number-before}
 use Rattle.wire.proofs.TextLaws.{length-decimals}
 use Rattle.calls.specs.Format.{callNumber, many, Stands, elements, formOf, width, place, numbersOf, buffersOf, callEnd, Whole}
 use Rattle.calls.specs.Text.{bufferText, line}
-use Rattle.calls.specs.Calls.{counts, LineBy, LineAt, LineOf, pointerWrite, pointerRead, gridPlan, gridRead, gridStore, gridConvert, OneLine}
+use Rattle.calls.specs.Calls.{counts, LineBy, LineAt, LineOf, pointerWrite, pointerRead, gridPlan, gridRead, gridStore, gridConvert, transfer, OneLine}
 use Rattle.calls.proofs.FormatLaws.{stands-at, number-stands}
 use Rattle.calls.proofs.StreamLaws.{place-more, tag-more}
 use Rattle.calls.proofs.ElementLaws.{length-elements}
 use Rattle.calls.proofs.TextLaws.{length-buffer}
+use Rattle.calls.proofs.ScriptLaws.{one-script, scripted-lengths}
 
 -- ---- bytes that follow
 
@@ -79,6 +80,7 @@ few-short tag f (gridPlan _ c) = short _ (count _ (count _ (count _ (count _ (by
 few-short tag f (gridRead _ o) = short _ (count _ (words _ (omega (arith, f 2)) none)) (lit≤ tt) (lit≤ tt)
 few-short tag f (gridStore _ c) = short _ (count _ (count _ (count _ (count _ (count _ (words _ (omega (arith, f 4)) none)))))) (lit≤ tt) (lit≤ tt)
 few-short tag f (gridConvert _ o) = short _ (count _ (bytes _ (omega (arith, f 1)) none)) (lit≤ tt) (lit≤ tt)
+few-short tag f (transfer s) = let (o, n) = scripted-lengths s in short _ (count _ (words _ (omega (arith, f 2)) (bytes _ (omega (arith, f 1)) none))) (lit≤ tt) (lit≤ tt)
 
 few : (bs : List ℕ) (tag : ℕ) → Whole bs tag → (i : ℕ) → length (getD (buffersOf bs tag) i []) ≤ 1024
 few bs tag h i =
@@ -109,6 +111,8 @@ one-by-tag tag (gridStore l _) (gridStore m _) =
     λ i. line (decimal (a i .number)) (counts (a i) ++ (decimal (a i .index) ∷ bufferText 16 (c i) ∷ []))
 one-by-tag tag (gridConvert l _) (gridConvert m _) =
     let (a, o) = one-convert _ _ _ _ _ _ _ _ _ _ (l .exactly) (m .exactly) in λ i. line (decimal (a i .number)) (decimal (a i .index) ∷ bufferText 2 (o i) ∷ [])
+one-by-tag tag (transfer s) (transfer s′) =
+    let (a, o, n) = one-script s s′ in λ i. line (decimal (a i .number)) (decimal (a i .index) ∷ bufferText 16 (o i) ∷ bufferText 2 (n i) ∷ [])
 
 pub one-line : OneLine
 one-line bs text text′ l m = one-by-tag (getD bs 0 0) l m

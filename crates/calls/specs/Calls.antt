@@ -10,6 +10,7 @@ use Rattle.grid_promises.specs.Promises as grid
 use Rattle.grid_promises.specs.Calls.{block}
 use Rattle.grid_promises.specs.Conversion.{Convert}
 use Rattle.grid_promises.specs.declared.Answer.{Answer}
+use Rattle.calls.specs.Scripts.{Scripted}
 use Rattle.calls.specs.Format.{many, elements, numbersOf, buffersOf, callEnd}
 use Rattle.wire.specs.Text.{decimal, Put}
 use Rattle.calls.specs.Text.{bufferText, line}
@@ -59,6 +60,10 @@ pub data LineBy : ℕ → List ℕ → List (List ℕ) → List ℕ → Type 0 w
       → length out′ ≡ length out
       → LineBy 6 (rows ∷ columns ∷ k ∷ target ∷ []) (counters ∷ out ∷ [])
       (line (decimal number) (decimal index ∷ bufferText 2 out′ ∷ []))
+  transfer : {rows columns k number index : ℕ} {bytes script out out′ numbers : List ℕ}
+      → Scripted rows columns k bytes script out (record { number = number; index = index }) out′ numbers
+      → LineBy 7 (rows ∷ columns ∷ k ∷ []) (bytes ∷ script ∷ out ∷ [])
+      (line (decimal number) (decimal index ∷ bufferText 16 out′ ∷ bufferText 2 numbers ∷ []))
 
 -- the same of a call that stands at the front of the bytes, with its tag and whatever it is
 abbrev pub LineAt : List ℕ → ℕ → List ℕ → Type 0

@@ -65,6 +65,7 @@ table =
     ∷ form 3 3 (8 ∷ 1 ∷ 8 ∷ 0 ∷ 0 ∷ [])
     ∷ form 3 5 (8 ∷ 8 ∷ 8 ∷ 1 ∷ 8 ∷ [])
     ∷ form 4 2 (1 ∷ 1 ∷ 0 ∷ 0 ∷ 0 ∷ [])
+    ∷ form 3 3 (1 ∷ 1 ∷ 8 ∷ 0 ∷ 0 ∷ [])
     ∷ []
 
 unfoldable pub formOf : ℕ → Form

@@ -17,6 +17,10 @@ use crate::print::put_count;
 use crate::print::put_end;
 use crate::print::put_number;
 use crate::print::put_words;
+use crate::script;
+
+// A script has at most so many steps: the first start, and one for each of its bytes.
+const MOST_STEPS: usize = MOST_ELEMENTS + 1;
 
 // How many bytes the call takes, 0 where it is none, and where its line ends.
 pub struct Made {
@@ -161,6 +165,30 @@ fn grid_convert(s: &[u8], out: &mut [u8], put: usize) -> usize
     put_end(out, c)
 }
 
+fn transfer(s: &[u8], out: &mut [u8], put: usize) -> usize
+    requires { ⌜ Whole (now s) 7 ⌝ }
+    ensures { λ r. ⌜ PutLine (LineAt (now (s .entry)) 7) (now (out .entry)) put (now (out .exit)) r ⌝ }
+{
+    let mut shown = [0u64; MOST_ELEMENTS];
+    let mut steps = [0u8; MOST_STEPS];
+    let i = load_words(s, 7, 2, &mut shown);
+    let n = elements(s, 7, 1).len() + 1;
+    let r = script::run(
+        call_number(s, 0),
+        call_number(s, 1),
+        call_number(s, 2),
+        elements(s, 7, 0),
+        elements(s, 7, 1),
+        &mut shown[..i],
+        &mut steps[..n],
+    );
+    let a = put_number(out, put, r.number);
+    let b = put_count(out, a, r.index);
+    let c = put_words(out, b, &shown[..i]);
+    let d = put_bytes(out, c, &steps[..n]);
+    put_end(out, d)
+}
+
 // Makes a call with this tag, and puts its line.
 fn answer(s: &[u8], tag: u8, out: &mut [u8], put: usize) -> usize
     requires { ⌜ Whole (now s) tag ⌝ }
@@ -173,6 +201,7 @@ fn answer(s: &[u8], tag: u8, out: &mut [u8], put: usize) -> usize
         4 => grid_read(s, out, put),
         5 => grid_store(s, out, put),
         6 => grid_convert(s, out, put),
+        7 => transfer(s, out, put),
         _ => put,
     }
 }

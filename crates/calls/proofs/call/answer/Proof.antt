@@ -19,6 +19,8 @@ answer-spec =
     (λ c κs. whole-by _ (c .before .match .keys5) (c .before .before .before .before .pre))
     -- grid-convert-requires
     (λ c κs. whole-by _ (c .before .match .keys6) (c .before .before .before .before .pre))
+    -- transfer-requires
+    (λ c κs. whole-by _ (c .before .match .keys7) (c .before .before .before .before .pre))
     -- same-length
     (λ c. c .before .before .pointer-write .kept .1 .0)
     -- returns
@@ -43,7 +45,11 @@ answer-spec =
     (λ c. c .before .before .grid-convert .kept .1 .0)
     -- returns-6
     (λ c. line-by _ (c .before .before .before .before .match .keys6) (c .before .before .grid-convert .ensures))
+    -- same-length-7
+    (λ c. c .before .before .transfer .kept .1 .0)
     -- returns-7
+    (λ c. line-by _ (c .before .before .before .before .match .keys7) (c .before .before .transfer .ensures))
+    -- returns-8
     (λ c.
     let t = c .match .rest in
-    absurd (not-whole _ _ (no-form _ (t .0 .0 .0 .0 .0 .1) (t .0 .0 .0 .0 .1) (t .0 .0 .0 .1) (t .0 .0 .1) (t .0 .1) (t .1)) (c .before .before .before .pre))))
+    absurd (not-whole _ _ (no-form _ (t .0 .0 .0 .0 .0 .0 .1) (t .0 .0 .0 .0 .0 .1) (t .0 .0 .0 .0 .1) (t .0 .0 .0 .1) (t .0 .0 .1) (t .0 .1) (t .1)) (c .before .before .before .pre))))

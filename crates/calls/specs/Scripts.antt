@@ -1,0 +1,39 @@
+-- A transfer by a script, a byte a step: which calls it makes, with which bytes, and what each answers. Assumes nothing.
+use mathlib.Core.Path.{_≡_}
+use mathlib.Core.List.{List, [], _∷_, _++_}
+use Prim.Native.Nat.{ℕ, suc, _+_, _≤_, _<_}
+use lib.ListN.{length, getD, take, drop}
+use Rattle.grid_promises.specs.declared.ReadAnswer.{ReadAnswer}
+use Rattle.fragment_promises.specs.declared.Transfer.{Transfer}
+use Rattle.fragment_promises.specs.declared.Step.{Step}
+use Rattle.fragment_promises.specs.Promises.{Start, Lump, Finishes}
+
+-- the next b of the bytes, of which so many were used: all that are left where they are fewer
+abbrev pub next : List ℕ → ℕ → ℕ → List ℕ
+next bytes used b = take b (drop used bytes)
+
+-- one step, from a record, with so many of the bytes used and an output, to a number, a record, how many bytes are then used, and the output
+pub data Stepped (m n k : ℕ) (bytes : List ℕ) : ℕ → Transfer → ℕ → List ℕ → ℕ → Transfer → ℕ → List ℕ → Type 0 where
+  -- 0 to 253: a lump of so many bytes
+  lump : {b used : ℕ} {t : Transfer} {out : List ℕ} {s : Step} → b ≤ 253 → Lump t (next bytes used b) s
+      → Stepped m n k bytes b t used out (s .number) (s .transfer) (used + length (next bytes used b)) out
+  -- 254: a new start with the same numbers. No byte is given back
+  start : {used : ℕ} {t : Transfer} {out : List ℕ} {s : Step} → Start m n k s → Stepped m n k bytes 254 t used out (s .number) (s .transfer) used out
+  -- 255: a finish
+  finish : {used : ℕ} {t : Transfer} {out after : List ℕ} {a : ReadAnswer} → Finishes t out a after → length after ≡ length out
+      → Stepped m n k bytes 255 t used out (a .number) t used after
+
+-- a start and the first steps of the script, so many of them: the record, how many bytes are used, the output, and all the numbers so far
+pub data After (m n k : ℕ) (bytes script out : List ℕ) : ℕ → Transfer → ℕ → List ℕ → List ℕ → Type 0 where
+  started : {s : Step} → Start m n k s → After m n k bytes script out 0 (s .transfer) 0 out (s .number ∷ [])
+  stepped : {i used used′ x : ℕ} {t u : Transfer} {now after numbers : List ℕ} → After m n k bytes script out i t used now numbers → i < length script
+      → Stepped m n k bytes (getD script i 0) t used now x u used′ after → After m n k bytes script out (suc i) u used′ after (numbers ++ (x ∷ []))
+
+-- the whole script, and one more finish: its answer, the output after it, and the numbers of all steps before it
+pub record Scripted (m n k : ℕ) (bytes script out : List ℕ) (answer : ReadAnswer) (after numbers : List ℕ) : Type 0 where
+  pub last : Transfer
+  pub used : ℕ
+  pub before : List ℕ
+  pub steps : After m n k bytes script out (length script) last used before numbers
+  pub ends : Finishes last before answer after
+  pub long : length after ≡ length before
