@@ -2,11 +2,11 @@
 use mathlib.Core.Path.{_≡_, refl, sym, ap, subst, _∙_}
 use mathlib.Core.List.{List, [], _∷_, _++_}
 use mathlib.Core.Logic.{_≢_}
-use Prim.Native.Nat.{ℕ, zero, suc, _+_, _-_, _≤_, _<_, min}
+use Prim.Native.Nat.{ℕ, suc, _+_, _-_, _≤_, _<_, min}
 use native.Mathlib.Numerals.{add-one}
 use native.Mathlib.Omega.{arith}
 use lib.Dec.{lit<}
-use lib.ListN.{length, getD, take, drop, set, length-take, length-drop, length-append, length-set}
+use lib.ListN.{length, getD, take, drop, set, length-take, length-drop, length-append}
 use lib.Seq.{take-suc-set, take-all}
 use Rattle.bits.proofs.FirstLaws.{first-under}
 use Rattle.grid_promises.specs.declared.ReadAnswer.{ReadAnswer}

@@ -8,6 +8,7 @@ use grid_promises::ReadAnswer;
 
 // A script's byte for a new start, and the one for a finish. A lower one is a lump of so many bytes.
 const START: u8 = 254;
+
 const FINISH: u8 = 255;
 
 // What a step leaves: the number that it answers, how many of the bytes are used, and the transfer.

@@ -1,5 +1,5 @@
 -- What the steps of the code come to: lengths, the bytes of a lump, and the words of a block. Assumes nothing.
-use Prim.Native.Nat.{ℕ, _+_, _*_, _<_}
+use Prim.Native.Nat.{ℕ, _+_, _*_, _<_, _≤_}
 use mathlib.Core.Path.{_≡_, sym, ap, subst, _∙_}
 use mathlib.Core.Bool.{cond}
 use mathlib.Core.List.{List, _++_}
@@ -16,7 +16,12 @@ use Rattle.grid_promises.specs.Refusals.{InRange}
 use Rattle.grid_promises.specs.Promises.{Read}
 use Rattle.grid_promises.specs.declared.ReadAnswer.{ReadAnswer}
 use Rattle.fragment_promises.specs.declared.Transfer.{Transfer}
-use Rattle.fragment_promises.specs.Transfers.{counterBytes, size, extended, countersOf, cellsOf, wordsFrom}
+use Rattle.fragment_promises.specs.Transfers.{counterBytes, size, extended, noted, standingOf, countersOf, cellsOf, wordsFrom}
+use Rattle.fragment_promises.specs.Promises.{Lump}
+use Rattle.fragment_promises.proofs.StandingLaws.{size-most, well-good}
+use Rattle.fragment_promises.proofs.StepLaws.{lump-stays, lump-taken, lump-refused}
+use Rattle.fragments.specs.declared.Judged.{Judged}
+use Rattle.fragments.specs.Steps.{Judges, stays, fits, refused}
 
 -- ---- lengths
 
@@ -29,33 +34,58 @@ whole-length m n k c bs e f = omega arith
 
 -- ---- the bytes of a lump
 
--- the first i of them stand in their places
-abbrev pub partly : Transfer → List ℕ → ℕ → Transfer
-partly t bs i = record { rows = t .rows; columns = t .columns; k = t .k; taken = t .taken; bytes = paste (t .bytes) (t .taken) bs i }
+-- a record with the first i bytes of a lump put into it, from place p on
+abbrev pub partly : Transfer → ℕ → List ℕ → ℕ → Transfer
+partly u p bs i = record { rows = u .rows; columns = u .columns; k = u .k; taken = u .taken; bytes = paste (u .bytes) p bs i }
 
-pub partly-none : (t : Transfer) (bs : List ℕ) → t ≡ partly t bs 0
-partly-none t bs = λ i. record { rows = t .rows; columns = t .columns; k = t .k; taken = t .taken; bytes = paste-zero (t .bytes) (t .taken) bs i }
+module _ (u : Transfer) (p : ℕ) (bs : List ℕ) where
+  pub partly-none : u ≡ partly u p bs 0
+  partly-none = λ i. record { rows = u .rows; columns = u .columns; k = u .k; taken = u .taken; bytes = paste-zero (u .bytes) p bs i }
 
-module _ (t next : Transfer) (bs : List ℕ) (i : ℕ) where
-  pub one-more : length (t .bytes) ≡ 560 → t .taken + i < 560 → i < length bs → next ≡ partly t bs i
-      → _≡_ {A = Transfer} (record {
-        rows = next .rows;
-        columns = next .columns;
-        k = next .k;
-        taken = next .taken;
-        bytes = set (next .bytes) (t .taken + i) (getD bs i 0);
-      }) (partly t bs (i + 1))
-  one-more room p q e =
-      let more = paste-suc (t .bytes) (t .taken) bs i 0 (omega arith) q ∙ ap (paste (t .bytes) (t .taken) bs) (sym (add-one i)) in
-      ap (λ u. record { rows = u .rows; columns = u .columns; k = u .k; taken = u .taken; bytes = set (u .bytes) (t .taken + i) (getD bs i 0) }) e
-      ∙ (λ j. record { rows = t .rows; columns = t .columns; k = t .k; taken = t .taken; bytes = more j })
+  pub partly-more : (next : Transfer) (i : ℕ) → length (u .bytes) ≡ 560 → p + i < 560 → i < length bs → next ≡ partly u p bs i
+      → _≡_ {A = Transfer} (record { rows = next .rows; columns = next .columns; k = next .k; taken = next .taken; bytes = set (next .bytes) (p + i) (getD bs i 0) })
+      (partly u p bs (i + 1))
+  partly-more next i room l q e =
+      let more = paste-suc (u .bytes) p bs i 0 (omega arith) q ∙ ap (paste (u .bytes) p bs) (sym (add-one i)) in
+      ap (λ v. record { rows = v .rows; columns = v .columns; k = v .k; taken = v .taken; bytes = set (v .bytes) (p + i) (getD bs i 0) }) e
+      ∙ (λ j. record { rows = u .rows; columns = u .columns; k = u .k; taken = u .taken; bytes = more j })
 
-  pub all-there : i ≡ length bs → next ≡ partly t bs i
-      → _≡_ {A = Transfer} (record { rows = next .rows; columns = next .columns; k = next .k; taken = t .taken + length bs; bytes = next .bytes }) (extended t bs)
-  all-there e f =
-      let all = ap (paste (t .bytes) (t .taken) bs) e ∙ ap (λ x. take (t .taken) (t .bytes) ++ x ++ drop (t .taken + length bs) (t .bytes)) (take-length bs) in
-      ap (λ u. record { rows = u .rows; columns = u .columns; k = u .k; taken = t .taken + length bs; bytes = u .bytes }) f
-      ∙ (λ j. record { rows = t .rows; columns = t .columns; k = t .k; taken = t .taken + length bs; bytes = all j })
+-- ---- a lump that was judged
+
+module _ (t : Transfer) (j : Judged) (bs : List ℕ) where
+  -- its record before its bytes are put
+  abbrev pub counted-on : Transfer
+  counted-on = record { rows = t .rows; columns = t .columns; k = t .k; taken = j .taken; bytes = t .bytes }
+
+  -- what is put are bytes of the lump, and there is room for them
+  pub judged-room : Judges (t .rows) (t .columns) (t .k) (t .taken) (length bs) j → (j .more ≤ length bs) × ((i : ℕ) → i < j .more → t .taken + i < 560)
+  judged-room (stays _ e) = let z : j .more ≡ 0 = ap (λ x. x .more) e in (omega arith, λ i l. absurd (omega arith))
+  judged-room (refused _ _ e) = let z : j .more ≡ 0 = ap (λ x. x .more) e in (omega arith, λ i l. absurd (omega arith))
+  judged-room (fits z l e) = let f : j .more ≡ length bs = ap (λ x. x .more) e in (omega arith, λ i h. omega (arith, size-most _ _ _ (well-good t z)))
+
+-- with all of them the lump ends as it should
+pub judged-lump : (t : Transfer) (j : Judged) (bs : List ℕ) → length (t .bytes) ≡ 560 → Judges (t .rows) (t .columns) (t .k) (t .taken) (length bs) j
+    → Lump t bs (record { number = j .number; transfer = partly (counted-on t j bs) (t .taken) bs (j .more) })
+judged-lump t j bs room d = go d
+  where
+    ends : Judged → Type 0
+    ends j = Lump t bs (record { number = j .number; transfer = partly (counted-on t j bs) (t .taken) bs (j .more) })
+
+    all : extended t bs ≡ partly (counted-on t (record { number = 0; taken = t .taken + length bs; more = length bs }) bs) (t .taken) bs (length bs)
+    all = λ i. record {
+      rows = t .rows;
+      columns = t .columns;
+      k = t .k;
+      taken = t .taken + length bs;
+      bytes = take (t .taken) (t .bytes) ++ sym (take-length bs) i ++ drop (t .taken + length bs) (t .bytes);
+    }
+
+    go : Judges (t .rows) (t .columns) (t .k) (t .taken) (length bs) j → ends j
+    go (stays l e) =
+        subst ends (sym e) (subst (λ v. Lump t bs (record { number = standingOf t; transfer = v })) (partly-none t (t .taken) bs) (lump-stays t bs room l))
+    go (fits z l e) = subst ends (sym e) (subst (λ v. Lump t bs (record { number = 0; transfer = v })) all (lump-taken t bs room z l))
+    go (refused z l e) =
+        subst ends (sym e) (subst (λ v. Lump t bs (record { number = 9; transfer = v })) (partly-none (noted t) (t .taken) bs) (lump-refused t bs room z l))
 
 -- ---- the words of a block
 

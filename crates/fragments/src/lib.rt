@@ -15,9 +15,9 @@ ghost use lib.ListN.{length, take};
 ghost use Rattle.bits.specs.First.{First};
 ghost use Rattle.grid_promises.specs.Refusals.{InRange};
 ghost use Rattle.grid_promises.specs.Promises.{Read};
-ghost use Rattle.fragment_promises.specs.Transfers.{counterBytes, size as sizeIs, standing as standingIs, extended, countersOf, cellsOf, wordsFrom};
+ghost use Rattle.fragment_promises.specs.Transfers.{counterBytes, size as sizeIs, standing as standingIs, countersOf, cellsOf, wordsFrom};
 ghost use Rattle.fragment_promises.specs.Promises.{Start, Lump, Finishes};
-ghost use Rattle.fragments.specs.Steps.{unfinished as unfinishedBy};
+ghost use Rattle.fragments.specs.Steps.{Judges, unfinished as unfinishedBy};
 
 // After a refused lump so many bytes count as taken: more than any block has.
 const TOO_MANY: usize = LONGEST + 1;
@@ -67,45 +67,56 @@ pub fn start(rows: usize, columns: usize, k: usize) -> Step
     Step { number, transfer }
 }
 
-// The transfer with the bytes of a lump after those that were taken.
-fn extend(t: Transfer, bytes: &[u8]) -> Transfer
-    requires { ⌜ t .taken + length (now bytes) ≤ 560 ⌝ }
-    ensures { λ r. ⌜ r ≡ extended t (now (bytes .entry)) ⌝ }
-{
-    let at = t.taken;
-    let mut next = t;
-    let mut i = 0;
-    while i < bytes.len() {
-        next.bytes[at + i] = bytes[i];
-        i += 1;
-    }
-    next.taken = at + bytes.len();
-    next
+// How a lump goes: its number, how many bytes then count as taken, and how many of its own are put behind those that were.
+struct Judged {
+    number: usize,
+    taken: usize,
+    more: usize,
 }
 
-// Takes a lump of bytes, or notes that it is refused. A transfer that stands at a refusal stays as it is.
+// A lump of `more` bytes. A record that stands at a refusal stays as it is.
+fn judge(rows: usize, columns: usize, k: usize, taken: usize, more: usize) -> Judged
+    ensures { λ r. ⌜ Judges rows columns k taken more r ⌝ }
+{
+    let number = standing(rows, columns, k, taken);
+    if number != ACCEPTED {
+        return Judged {
+            number,
+            taken,
+            more: 0,
+        };
+    }
+    if more > size(rows, columns, k) - taken {
+        return Judged {
+            number: LONG_BLOCK,
+            taken: TOO_MANY,
+            more: 0,
+        };
+    }
+    Judged {
+        number: ACCEPTED,
+        taken: taken + more,
+        more,
+    }
+}
+
+// Takes a lump of bytes, or notes that it is refused. One way for all of them: at each return the compiler would copy the transfer once more.
 pub fn lump(t: Transfer, bytes: &[u8]) -> Step
     ensures { λ r. ⌜ Lump t (now (bytes .entry)) r ⌝ }
 {
-    let taken = t.taken;
-    let number = standing(t.rows, t.columns, t.k, taken);
-    if number != ACCEPTED {
-        return Step {
-            number,
-            transfer: t,
-        };
-    }
-    if bytes.len() > size(t.rows, t.columns, t.k) - taken {
-        let mut noted = t;
-        noted.taken = TOO_MANY;
-        return Step {
-            number: LONG_BLOCK,
-            transfer: noted,
-        };
+    let at = t.taken;
+    let j = judge(t.rows, t.columns, t.k, at, bytes.len());
+    let more = j.more;
+    let mut next = t;
+    next.taken = j.taken;
+    let mut i = 0;
+    while i < more {
+        next.bytes[at + i] = bytes[i];
+        i += 1;
     }
     Step {
-        number: ACCEPTED,
-        transfer: extend(t, bytes),
+        number: j.number,
+        transfer: next,
     }
 }
 

@@ -1,5 +1,5 @@
 use Prim.Native.Nat.{ℕ, _+_, _-_, _≤_}
-use mathlib.Core.Path.{_≡_, refl, sym, ap, subst, _∙_}
+use mathlib.Core.Path.{_≡_, refl, _∙_}
 use native.Mathlib.Omega.{arith}
 use borrow.Author.Needs.{needs}
 use mathlib.Core.List.{List}
@@ -49,9 +49,13 @@ run-spec =
     -- loop-less
     (λ c. omega arith)
     -- loop-again
-    (λ c. let l = c .before .before .before .before .before .before .before .before .loop in let b = c .before .before .before .before .before .before .before .before .before .before .before .before .before .before .before .before in let a = b .args in let s = c .before .before .before .before .step in let v = l .inv in
-    (omega arith, step-within (s .ensures) (v .1), step-length (s .ensures) ∙ v .2, length-set (l .steps) (l .i + 1) _ ∙ v .3,
-    after-step (a .rows) (a .columns) (a .k) (l .i) (l .used) _ _ (a .bytes .now) (a .script .now) (a .out .now) (l .out) _ (l .steps) (l .t) _ (omega (arith, b .pre .1, as-many (a .steps .now) (l .steps) _ (v .3), c .before .before .before .before .before .before .before .loop-test .taken)) (c .before .before .before .before .before .before .before .loop-test .taken) (v .4) (s .ensures)))
+    (λ c. let l = c .before .before .before .before .before .before .before .before .loop in let b = c .before .before .before .before .before .before .before .before .before .before .before .before .before .before .before .before in let a = b .args in let s = c .before .before .before .before .step in let v = l .inv in (
+      omega arith,
+      step-within (s .ensures) (v .1),
+      step-length (s .ensures) ∙ v .2,
+      length-set (l .steps) (l .i + 1) _ ∙ v .3,
+      after-step (a .rows) (a .columns) (a .k) (l .i) (l .used) _ _ (a .bytes .now) (a .script .now) (a .out .now) (l .out) _ (l .steps) (l .t) _ (omega (arith, b .pre .1, as-many (a .steps .now) (l .steps) _ (v .3), c .before .before .before .before .before .before .before .loop-test .taken)) (c .before .before .before .before .before .before .before .loop-test .taken) (v .4) (s .ensures),
+    ))
     -- finish-requires
     (λ c κs. search needs)
     -- same-length

@@ -1,4 +1,3 @@
-use native.Mathlib.Omega.{arith}
 use borrow.Author.Needs.{needs}
 use Rattle.calls.proofs.ScriptLaws.{lump-step, start-step, finish-step}
 use Rattle.calls.proofs.script.step.Statement.{statement}
