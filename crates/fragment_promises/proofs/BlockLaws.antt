@@ -40,10 +40,6 @@ below-part p q bs h i =
     ⊎-elim (λ l. rw (getD-take q (drop p bs) i l, getD-drop) (h (p + i)))
     (λ l. rw (past-end (take q (drop p bs)) i (omega (arith, length-take q (drop p bs)))) (omega arith)) (lt-or-le i q)
 
-part-lt : (p : ℕ) (bs : List ℕ) → Below 256 bs → number 256 (take 8 (drop p bs)) < 2 ^ 64
-part-lt p bs h =
-    lt-of-lt-of-le (number-lt 256 (take 8 (drop p bs)) (below-part p 8 bs h)) (pow-le-pow-right (omega arith) (let l : length (take 8 (drop p bs)) ≤ 8 = omega (arith, length-take 8 (drop p bs)) in l))
-
 -- bit j of the eight bytes from byte p on
 part-bit : (p j : ℕ) (bs : List ℕ) → Below 256 bs → j < 64 → has (number 256 (take 8 (drop p bs))) j ≡ at bs (8 * p + j)
 unfolding at
@@ -54,16 +50,20 @@ part-bit p j bs h l =
     ∙ ap (λ x. has x (j % 8)) (getD-take 8 (drop p bs) (j / 8) (omega arith) ∙ getD-drop p bs (j / 8) 0)
     ∙ ap₂ (λ i q. has (getD bs i 0) q) here rest
 
+-- bit j of cell word i
+pub cell-bit : (m n k : ℕ) (bs : List ℕ) → Below 256 bs → (i j : ℕ) → i < m → j < 64 → bit (cellsOf m n k bs) i j ≡ cellBit m n k bs i j
+unfolding wordsFrom bit
+cell-bit m n k bs h i j p q = ap (λ x. has x j) (getD-list m _ 0 i p) ∙ part-bit (counterBytes m n k + 8 * i) j bs h q
+
+part-lt : (p : ℕ) (bs : List ℕ) → Below 256 bs → number 256 (take 8 (drop p bs)) < 2 ^ 64
+part-lt p bs h =
+    lt-of-lt-of-le (number-lt 256 (take 8 (drop p bs)) (below-part p 8 bs h)) (pow-le-pow-right (omega arith) (let l : length (take 8 (drop p bs)) ≤ 8 = omega (arith, length-take 8 (drop p bs)) in l))
+
 pub cells-below : (m n k : ℕ) (bs : List ℕ) → Below 256 bs → Below (2 ^ 64) (cellsOf m n k bs)
 unfolding wordsFrom
 cells-below m n k bs h =
     let word : ℕ → ℕ = λ i. number 256 (take 8 (drop (counterBytes m n k + 8 * i) bs)) in
     below-all m (2 ^ 64) (list m word) (pow-pos 64) (length-list m word) (λ i l. rw (getD-list m word 0 i l) (part-lt (counterBytes m n k + 8 * i) bs h))
-
--- bit j of cell word i
-pub cell-bit : (m n k : ℕ) (bs : List ℕ) → Below 256 bs → (i j : ℕ) → i < m → j < 64 → bit (cellsOf m n k bs) i j ≡ cellBit m n k bs i j
-unfolding wordsFrom bit
-cell-bit m n k bs h i j p q = ap (λ x. has x j) (getD-list m _ 0 i p) ∙ part-bit (counterBytes m n k + 8 * i) j bs h q
 
 -- a cell word has 64 bits, and there are m of them
 no-bit : (m n k : ℕ) (bs : List ℕ) → Below 256 bs → (i j : ℕ) → 64 ≤ j → bit (cellsOf m n k bs) i j ≡ false
