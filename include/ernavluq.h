@@ -4,7 +4,8 @@
  * Header and archive must be of one release: a release may add fields to an answer, and the linker does not notice an object with fewer.
  *
  * What may be passed: everything. A buffer may have any length, NULL with length 0 included, and a number may be any number. Every call ends. It does its
- * work and answers number 0, or it answers the number of one refusal; then every count in the answer is 0 and no buffer is altered. (An index is no count.)
+ * work and answers number 0, or it answers the number of one refusal; then every count in the answer is 0 and no buffer is altered. (An index is no count,
+ * and what a transfer holds is none.)
  * If several refusals apply, the answer is the lowest; only the finish of a transfer has an order of its own. Each call is proved to do what is said here,
  * for all arguments.
  *
@@ -172,20 +173,22 @@ ernavluq_grid_convert_answer ernavluq_grid_convert(
  * ERNAVLUQ_BLOCK_BYTES(rows, columns, k) in all. A transfer starts with the block's numbers, takes the bytes in lumps of any length, no bytes included, and
  * hands nothing out before it is finished. Then it answers and fills the output as ernavluq_grid_read does with the joined bytes.
  *
- * The transfer is passed and returned by value, and no call keeps anything of it: go on with the one that the last start or lump returned. A copy is a
- * transfer of its own. Any bits may be passed as one, even if no call made them: with numbers out of range every call but a start answers 1, and with more
- * bytes taken than the block has, 9. */
+ * A transfer is passed and returned by value, 592 bytes, and no call keeps anything of it. Go on with the one that the last start or lump returned, refused
+ * or not: step = ernavluq_transfer_lump(step.transfer, bytes, n). A copy is a transfer of its own. Any bits may be passed as one, even if no call made them:
+ * with rows, columns or k out of range a lump and a finish answer 1, and with more bytes taken than the block has, 9.
+ * A transfer counts bytes, and knows nothing else of their order: if the sender repeats bytes, or leaves some out, and the count is right, a wrong block is
+ * read. */
 
 /* The bytes of a block, and those of the longest: 64 rows and 64 columns at K = 4 to 7. */
 #define ERNAVLUQ_BLOCK_BYTES(rows, columns, k) (ERNAVLUQ_COUNTER_BYTES(rows, columns, k) + 8 * (rows))
 #define ERNAVLUQ_MAX_BLOCK_BYTES 560
 
 typedef struct {
-    size_t rows;                             /* what the start was given */
+    size_t rows;                             /* the three numbers that the start was given */
     size_t columns;
     size_t k;
-    size_t taken;                            /* the bytes taken so far; after a refusal 9 more than the block has */
-    uint8_t bytes[ERNAVLUQ_MAX_BLOCK_BYTES]; /* these bytes first */
+    size_t taken;                            /* the bytes taken since; after refusal 9 ERNAVLUQ_MAX_BLOCK_BYTES + 1, which no block has */
+    uint8_t bytes[ERNAVLUQ_MAX_BLOCK_BYTES]; /* those bytes; behind them 0, or what stood there in the transfer that was passed */
 } ernavluq_transfer;
 
 typedef struct {
@@ -193,13 +196,14 @@ typedef struct {
     ernavluq_transfer transfer; /* the transfer from here on */
 } ernavluq_transfer_step;
 
-/* Starts a transfer of a block with these rows and columns (1 to 64 each) and K (1 to 7): no byte is taken yet. Whatever was on its way before is given up.
- * Refusals: 1. Then every later call of this transfer answers 1 too. */
+/* Starts a transfer of a block with these rows and columns (1 to 64 each) and K (1 to 7): the transfer has these numbers, no byte taken, and zeros.
+ * Refusals: 1. The transfer has the numbers all the same, and a lump and a finish of it answer 1 too. */
 ernavluq_transfer_step ernavluq_transfer_start(size_t rows, size_t columns, size_t k);
 
 /* Takes a lump: its bytes follow those taken before. Lumps may follow a finish, and after a finish with refusal 8 they may complete the block.
- * Refusals: 1, if the start was refused with it; 9, if the block would get longer than it is. Then no byte of the lump is taken, and every later call of
- * this transfer answers 9 too, a lump of no bytes included. */
+ * Refusals: 1, if the numbers of the transfer are out of range; 9, if with this lump it would have more bytes than the block. Then no byte of the lump is
+ * taken, and every later lump and finish answers 9 too, a lump of no bytes included. With 1, and where 9 was answered before, the transfer comes back as it
+ * was. */
 ernavluq_transfer_step ernavluq_transfer_lump(ernavluq_transfer transfer, const uint8_t *bytes, size_t bytes_length);
 
 /* Finishes a block: reads it if all its bytes are there. Accepted, out holds what ernavluq_grid_read makes of the block's cells and counters. The transfer

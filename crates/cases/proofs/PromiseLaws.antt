@@ -1,5 +1,5 @@
 -- Whatever meets the promise of a call is the call's line: the number decides which. Assumes nothing.
-use Prim.Native.Nat.{ℕ, zero, suc}
+use Prim.Native.Nat.{ℕ, zero, suc, _+_}
 use mathlib.Core.Path.{_≡_, refl, sym, ap, _∙_}
 use mathlib.Core.List.{List, [], _∷_}
 use mathlib.Core.Logic.{_≢_}
@@ -8,11 +8,18 @@ use Rattle.bits.proofs.TestLaws.{iff-stable}
 use Rattle.rdis.specs.Block.{Block, faults}
 use Rattle.grid_promises.specs.Demands.{CountsNothing, CountsKinds}
 use Rattle.grid_promises.specs.declared.Answer.{Answer}
+use Rattle.grid_promises.specs.Calls.{badIndex}
+use Rattle.grid_promises.specs.declared.ReadAnswer.{ReadAnswer}
+use Rattle.fragment_promises.specs.declared.Transfer.{Transfer}
+use Rattle.fragment_promises.specs.Transfers.{standingOf}
+use Rattle.fragment_promises.specs.Promises.{Finishes}
+use Rattle.fragment_promises.specs.Sequences.{Event}
+use Rattle.fragment_promises.proofs.SequenceLaws.{as-defined}
 use Rattle.pointer_promises.specs.Pointer.{active, held, encode, verdict}
 use Rattle.pointer_promises.specs.Refusals.{InRange, outOfRange}
 use Rattle.pointer_promises.proofs.FormedLaws.{active-is}
 use Rattle.pointer_promises.proofs.RefusalLaws.{range-iff}
-use Rattle.cases.specs.Lines.{Line, Call, metadata, pointerRead, pointerWrite, gridRead, gridPlan, gridStore, gridConvert, byNumber, countersIn, counted, uncounted, readRefused, storeRefused, line}
+use Rattle.cases.specs.Lines.{Line, Call, metadata, pointerRead, pointerWrite, gridRead, gridPlan, gridStore, gridConvert, transfer, byNumber, countersIn, counted, uncounted, readRefused, storeRefused, heldCounters, finished, line}
 use Rattle.cases.specs.Statements.{answered, Promised}
 
 -- an ending x with the number of its call is what the number says
@@ -95,6 +102,20 @@ promised-convert m n k k′ counters out answer out′ r =
     (λ z i. record { numbers = z i ∷ r .demands .names .none (λ f. omega (arith, z)) i ∷ []; buffers = e .bytesAre z i ∷ [] })
     (λ z i. record { numbers = answer .number ∷ e .indexIs i ∷ []; buffers = e .untouched (omega arith) i ∷ [] })
 
+-- a finish of a record is the line that the definitions give of that record
+finish-line : (u : Transfer) (out : List ℕ) (answer : ReadAnswer) (out′ : List ℕ) → Finishes u out answer out′
+    → record { numbers = answer .number ∷ answer .index ∷ standingOf u ∷ []; buffers = out′ ∷ [] } ≡ finished u out
+finish-line u out answer out′ f =
+    let e = f .exactly in
+    by-number (answer .number) _ _ _
+    (λ x. record { numbers = x ∷ badIndex (u .k) (u .rows + u .columns) (heldCounters u) x ∷ standingOf u ∷ []; buffers = out ∷ [] }) (e .number)
+    (λ z i. record { numbers = z i ∷ f .demands .names .none (λ h. omega (arith, z)) i ∷ standingOf u ∷ []; buffers = e .shown z i ∷ [] })
+    (λ z i. record { numbers = answer .number ∷ e .indexIs i ∷ standingOf u ∷ []; buffers = e .untouched (omega arith) i ∷ [] })
+
+promised-transfer : (m n k : ℕ) (calls : List Event) (out : List ℕ) → Promised (transfer m n k calls out) (line (transfer m n k calls out))
+unfolding line
+promised-transfer m n k calls out t u answer out′ c f = finish-line u out answer out′ f ∙ ap (λ v. finished v out) (as-defined t u m n k calls c)
+
 -- so every call's line is promised
 pub promised : (c : Call) → Promised c (line c)
 promised (metadata n es) = promised-metadata n es
@@ -104,3 +125,4 @@ promised (gridRead m n k cells counters out) = promised-grid-read m n k cells co
 promised (gridPlan b k counters) = promised-plan b k counters
 promised (gridStore b k counters cells) = promised-store b k counters cells
 promised (gridConvert m n k k′ counters out) = promised-convert m n k k′ counters out
+promised (transfer m n k calls out) = promised-transfer m n k calls out

@@ -11,6 +11,9 @@ use Rattle.rdis.specs.Cells.{stored, reading}
 use Rattle.rdis.specs.Packing.{width, inOrder, packed, unpacked, counter, rowCounter, columnCounter}
 use Rattle.grid_promises.specs.Calls.{readNumber, planNumber, storeNumber, used, rowsOf, columnsOf, badIndex}
 use Rattle.grid_promises.specs.Conversion.{convertNumber}
+use Rattle.fragment_promises.specs.declared.Transfer.{Transfer}
+use Rattle.fragment_promises.specs.Transfers.{standingOf, held, started, countersOf, cellsOf, finishNumber}
+use Rattle.fragment_promises.specs.Sequences.{Event, run}
 use Rattle.pointer_promises.specs.Pointer as pointer
 
 -- a line: the number and the other figures of the answer, and the buffers afterwards
@@ -34,6 +37,8 @@ pub data Call : Type 0 where
   gridStore : Block → ℕ → (counters cells : List ℕ) → Call
   -- a conversion of the counters of rows and columns from K to a target
   gridConvert : (m n k k′ : ℕ) (counters out : List ℕ) → Call
+  -- a transfer: a start with rows, columns and K, calls after it, and a finish
+  transfer : (m n k : ℕ) (calls : List Event) (out : List ℕ) → Call
 
 -- by the number: the first where it is 0, so where the call is accepted, else the second
 abbrev pub byNumber : {A : Type 0} → ℕ → A → A → A
@@ -58,6 +63,25 @@ readRefused m n k counters number = number ∷ badIndex k (m + n) counters numbe
 
 abbrev pub storeRefused : Block → ℕ → (counters : List ℕ) → ℕ → List ℕ
 storeRefused b k counters number = uncounted number (badIndex k (b .rows + b .columns) counters number)
+
+-- of a finish of a record: where it is refused, what the record stands at comes after the index
+abbrev pub finishOf : Transfer → List ℕ → ℕ
+finishOf t out = finishNumber (t .rows) (t .columns) (t .k) (t .taken) (held t) (length out)
+
+abbrev pub heldCounters : Transfer → List ℕ
+heldCounters t = countersOf (t .rows) (t .columns) (t .k) (held t)
+
+abbrev pub heldCells : Transfer → List ℕ
+heldCells t = cellsOf (t .rows) (t .columns) (t .k) (held t)
+
+abbrev pub finished : Transfer → List ℕ → Line
+finished t out =
+    byNumber (finishOf t out)
+    (record {
+      numbers = 0 ∷ 0 ∷ standingOf t ∷ [];
+      buffers = reading (t .rows) (t .columns) (rowCounter (width (t .k)) (heldCounters t)) (columnCounter (width (t .k)) (t .rows) (heldCounters t)) (heldCells t) ∷ [];
+    })
+    (record { numbers = finishOf t out ∷ badIndex (t .k) (t .rows + t .columns) (heldCounters t) (finishOf t out) ∷ standingOf t ∷ []; buffers = out ∷ [] })
 
 -- where it is refused, the counts are 0 and the buffers as they were
 unfoldable pub line : Call → Line
@@ -101,3 +125,4 @@ line (gridConvert m n k k′ counters out) =
     byNumber (convertNumber m n k k′ counters (length out))
     (record { numbers = 0 ∷ 0 ∷ []; buffers = packed (width k′) (unpacked (width k) (m + n) counters) ∷ [] })
     (record { numbers = readRefused m n k counters (convertNumber m n k k′ counters (length out)); buffers = out ∷ [] })
+line (transfer m n k calls out) = finished (run (started m n k) calls) out

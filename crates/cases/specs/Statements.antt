@@ -1,5 +1,5 @@
 -- What is proved of the tables: by the definitions each call comes to its line, and whatever meets the promise of a call ends as its line says. (That the
--- calls do meet their promises is proved of their code, in the crates pointer and grid.) Assumes nothing.
+-- calls do meet their promises is proved of their code, in the crates pointer, grid and fragments.) Assumes nothing.
 use Prim.Native.Nat.{ℕ}
 use mathlib.Core.Path.{_≡_}
 use mathlib.Core.List.{List, [], _∷_, map}
@@ -8,16 +8,21 @@ use Rattle.grid_promises.specs.Conversion.{Convert}
 use Rattle.grid_promises.specs.declared.ReadAnswer as gridReadAnswer
 use Rattle.grid_promises.specs.declared.ConvertAnswer.{ConvertAnswer}
 use Rattle.grid_promises.specs.declared.Answer as gridAnswer
+use Rattle.fragment_promises.specs.declared.Transfer.{Transfer}
+use Rattle.fragment_promises.specs.Transfers.{standingOf}
+use Rattle.fragment_promises.specs.Promises.{Finishes}
+use Rattle.fragment_promises.specs.Sequences.{start, Calls}
 use Rattle.pointer_promises.specs.Pointer.{held, after, verdict}
 use Rattle.pointer_promises.specs.Promises as pointer
 use Rattle.pointer_promises.specs.declared.ReadAnswer.{ReadAnswer}
 use Rattle.pointer_promises.specs.declared.WriteAnswer.{WriteAnswer}
-use Rattle.cases.specs.Lines.{Line, Call, metadata, pointerRead, pointerWrite, gridRead, gridPlan, gridStore, gridConvert, byNumber, countersIn, line}
+use Rattle.cases.specs.Lines.{Line, Call, metadata, pointerRead, pointerWrite, gridRead, gridPlan, gridStore, gridConvert, transfer, byNumber, countersIn, line}
 use Rattle.cases.specs.Table.{Row, table}
 use Rattle.cases.specs.Edges.{rowEdges, readEdges, planEdges, storeEdges}
 use Rattle.cases.specs.IndexEdges.{indexEdges}
 use Rattle.cases.specs.LevelEdges.{levelEdges}
 use Rattle.cases.specs.ConvertEdges.{convertEdges}
+use Rattle.cases.specs.FragmentEdges.{fragmentEdges}
 
 -- each of these calls comes to its line
 abbrev pub Computed : List Row → Type 0
@@ -28,6 +33,7 @@ EveryCase = Computed table
 
 abbrev pub EveryEdge : Type 0
 EveryEdge = Computed rowEdges × Computed readEdges × Computed planEdges × Computed storeEdges × Computed indexEdges × Computed levelEdges × Computed convertEdges
+    × Computed fragmentEdges
 
 -- what a plan or a store answers: the number, the counts and the index
 abbrev pub answered : gridAnswer.Answer → List ℕ
@@ -58,6 +64,10 @@ Promised (gridStore b k counters cells) l =
 Promised (gridConvert m n k k′ counters out) l =
     (answer : ConvertAnswer) (out′ : List ℕ) → Convert m n k k′ counters out answer out′
     → record { numbers = answer .number ∷ answer .index ∷ []; buffers = out′ ∷ [] } ≡ l
+-- from any record on; what the record stands at is what the last start or lump answered
+Promised (transfer m n k calls out) l =
+    (t u : Transfer) (answer : gridReadAnswer.ReadAnswer) (out′ : List ℕ) → Calls t (start m n k ∷ calls) u → Finishes u out answer out′
+    → record { numbers = answer .number ∷ answer .index ∷ standingOf u ∷ []; buffers = out′ ∷ [] } ≡ l
 
 -- each of these rows is promised
 abbrev pub Every : List Row → Type 0
@@ -66,3 +76,4 @@ Every (r ∷ rs) = Promised (r .call) (r .expected) × Every rs
 
 abbrev pub EveryPromise : Type 0
 EveryPromise = Every table × Every rowEdges × Every readEdges × Every planEdges × Every storeEdges × Every indexEdges × Every levelEdges × Every convertEdges
+    × Every fragmentEdges

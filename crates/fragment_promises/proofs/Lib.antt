@@ -5,3 +5,4 @@ pub mod StepLaws
 pub mod FinishLaws
 pub mod SequenceLaws
 pub mod CuttingLaws
+pub mod Examples

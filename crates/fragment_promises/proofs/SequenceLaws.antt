@@ -17,10 +17,10 @@ use Rattle.fragment_promises.specs.declared.Step.{Step}
 use Rattle.fragment_promises.specs.Transfers.{size, sizeOf, standingOf, held, lumped}
 use Rattle.fragment_promises.specs.Demands.{Told, Good, StartDemands, LumpDemands, finishRefusals, FinishDemands}
 use Rattle.fragment_promises.specs.Promises.{FinishesBy}
-use Rattle.fragment_promises.specs.Sequences.{Event, start, lump, finish, Calls, none, starts, takes, ends, Story, begun, tell, story, Fine, whole, EveryLump, EveryFinish}
+use Rattle.fragment_promises.specs.Sequences.{Event, start, lump, finish, Calls, none, starts, takes, ends, run, AsDefined, Story, begun, tell, story, Fine, whole, EveryLump, EveryFinish}
 use Rattle.fragment_promises.proofs.PutLaws.{length-put, take-put}
 use Rattle.fragment_promises.proofs.StandingLaws.{size-most, well-good, well-size, ill, by-lump}
-use Rattle.fragment_promises.proofs.StepLaws.{lump-exactly}
+use Rattle.fragment_promises.proofs.StepLaws.{start-promise, one-start-by-demands, lump-exactly}
 
 -- the record holds what was sent; where that is more than the block has, more bytes count as taken
 record Agrees (h : Story) (t : Transfer) : Type 0 where
@@ -137,6 +137,20 @@ module _ (h : Story) (t : Transfer) (a : Agrees h t) where
         (λ n. refused 1 (omega arith) (λ e. omega arith) (hit (f .first) n) (record { found = inl (n, refl) }))
         (λ r l o. refused 9 (omega arith) (λ e. omega arith) (hit (miss (f .first) (λ n. n r)) o) (record { found = inr (λ n. n r, inl (omega (arith, same-size), refl)) }))
         (λ r p q. subst (λ X. X) (λ i. FinishDemands (t .rows) (t .columns) (t .k) (p i) (q i) out b after) f))
+
+-- ---- the record is the one that the definitions make
+
+as-run : (t u : Transfer) (es : List Event) → length (t .bytes) ≡ 560 → Calls t es u → u ≡ run t es
+as-run t u es room none = refl
+as-run t u es room (starts {m} {n} {k} {s} {es = fs} d c) =
+    as-run (s .transfer) u fs (d .room) c ∙ ap (λ s. run (s .transfer) fs) (one-start-by-demands m n k s _ d (start-promise m n k .demands))
+as-run t u es room (takes {bs} {s} {es = fs} d c) =
+    as-run (s .transfer) u fs (d .room ∙ room) c ∙ ap (λ s. run (s .transfer) fs) (lump-exactly t bs room s d)
+as-run t u es room (ends {es = fs} d c) = as-run t u fs room c
+
+pub as-defined : AsDefined
+as-defined t u m n k es (starts {s = s} d c) =
+    as-run (s .transfer) u es (d .room) c ∙ ap (λ s. run (s .transfer) es) (one-start-by-demands m n k s _ d (start-promise m n k .demands))
 
 -- ---- the theorem
 

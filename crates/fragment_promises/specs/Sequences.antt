@@ -15,7 +15,7 @@ use Rattle.grid_promises.specs.declared.ReadAnswer.{ReadAnswer}
 use Rattle.grid_promises.specs.declared.Answer.{Answer}
 use Rattle.fragment_promises.specs.declared.Transfer.{Transfer}
 use Rattle.fragment_promises.specs.declared.Step.{Step}
-use Rattle.fragment_promises.specs.Transfers.{counterBytes, size, sizeOf, countersOf, cellsOf, wordBytes}
+use Rattle.fragment_promises.specs.Transfers.{counterBytes, size, sizeOf, countersOf, cellsOf, wordBytes, started, lumped}
 use Rattle.fragment_promises.specs.Demands.{Good, StartDemands, LumpDemands, FinishDemands}
 use Rattle.fragment_promises.specs.Promises.{FinishesBy}
 
@@ -32,6 +32,20 @@ pub data Calls : Transfer → List Event → Transfer → Type 0 where
   starts : {m n k : ℕ} {s : Step} {t v : Transfer} {es : List Event} → StartDemands m n k s → Calls (s .transfer) es v → Calls t (start m n k ∷ es) v
   takes : {bs : List ℕ} {s : Step} {t v : Transfer} {es : List Event} → LumpDemands t bs s → Calls (s .transfer) es v → Calls t (lump bs ∷ es) v
   ends : {out after : List ℕ} {a : ReadAnswer} {t v : Transfer} {es : List Event} → FinishesBy t out a after → Calls t es v → Calls t (finish out ∷ es) v
+
+-- the record that the definitions make of them
+abbrev pub goes : Transfer → Event → Transfer
+goes t (start m n k) = started m n k
+goes t (lump bs) = lumped t bs
+goes t (finish out) = t
+
+abbrev pub run : Transfer → List Event → Transfer
+run t [] = t
+run t (e ∷ es) = run (goes t e) es
+
+-- whatever keeps the demands brings it there, from a start on
+abbrev pub AsDefined : Type 0
+AsDefined = (t u : Transfer) (m n k : ℕ) (es : List Event) → Calls t (start m n k ∷ es) u → u ≡ run (started m n k) es
 
 -- ---- what the caller did, with no thought of refusals: the numbers of the last start, and all the bytes sent since, those of refused lumps too
 
