@@ -16,14 +16,14 @@ use Rattle.bits.proofs.ByteLaws.{words-ext, is-words}
 use Rattle.rdis.specs.Block.{bit}
 use Rattle.rdis.specs.Cells.{flips, reading}
 use Rattle.rdis.specs.Packing.{width, counter, above}
-use Rattle.grid_promises.specs.Calls.{countersSized, readPast, readNumber, badIndex}
+use Rattle.grid_promises.specs.Calls.{countersSized, readPast, readNumber}
 use Rattle.grid_promises.specs.Refusals.{InRange, Above, inverted}
 use Rattle.grid_promises.specs.Promises.{Read}
 use Rattle.grid_promises.specs.declared.ReadAnswer.{ReadAnswer}
 use Rattle.grid_promises.proofs.RefusalLaws.{in-range, read-sized, past-iff, spare-iff, above-iff, counter-held}
 use Rattle.grid_promises.proofs.IndexLaws.{index-names, names-index}
 use Rattle.grid_promises.proofs.ReadDemands.{read-demands}
-use Rattle.grid_promises.proofs.OneAnswer.{either-way}
+use Rattle.grid_promises.proofs.OneAnswer.{same-shown, same-left}
 use Rattle.fragment_promises.specs.Transfers.{size, countersOf, cellsOf, finishNumber}
 use Rattle.fragment_promises.specs.Demands.{cellBit, finishRefusals, FinishDemands}
 use Rattle.fragment_promises.specs.Promises.{FinishExactly, Finish, OneFinish, OneFinishByDemands, FinishMeasured}
@@ -140,27 +140,18 @@ module _ (m n k taken : ℕ) (bs out : List ℕ) (a : ReadAnswer) (after : List 
 
 -- ---- no second end
 
-same-finishes : (m n k taken : ℕ) (bs out out′ : List ℕ) (a a′ : ReadAnswer) (x x′ : List ℕ)
-    → length out ≡ length out′ → FinishExactly m n k taken bs out a x → FinishExactly m n k taken bs out′ a′ x′ → (a ≡ a′) × (a .number ≡ 0 → x ≡ x′)
-same-finishes m n k taken bs out out′ a a′ x x′ l e f =
-    let same : a .number ≡ a′ .number = e .number ∙ ap (finishNumber m n k taken bs) l ∙ sym (f .number) in
-    let index : a .index ≡ a′ .index = e .indexIs ∙ ap (badIndex k (m + n) (countersOf m n k bs)) same ∙ sym (f .indexIs) in
-    (λ i. record { number = same i; index = index i }, λ z. e .shown z ∙ sym (f .shown (sym same ∙ z)))
-
 pub finish-measured : FinishMeasured
-finish-measured m n k taken bs out out′ a a′ x x′ l e f = same-finishes m n k taken bs out out′ a a′ x x′ l (e .exactly) (f .exactly)
+finish-measured m n k taken bs out out′ a a′ x x′ l r s =
+    let e = r .exactly in
+    let f = s .exactly in
+    same-shown k (m + n) (countersOf m n k bs) a a′ x x′ _ (e .number ∙ ap (finishNumber m n k taken bs) l ∙ sym (f .number)) (e .indexIs) (f .indexIs) (e .shown) (f .shown)
 
 pub one-finish : OneFinish
 one-finish m n k taken bs out a a′ x x′ e f =
-    let (same, accepted) = same-finishes m n k taken bs out out a a′ x x′ refl e f in
-    (same, either-way (a .number) (λ l. e .untouched l ∙ sym (f .untouched (rw (← same) l))) accepted)
+    same-left k (m + n) (countersOf m n k bs) a a′ x x′ _ (e .number ∙ sym (f .number)) (e .indexIs) (f .indexIs) (e .shown) (f .shown) out (e .untouched) (f .untouched)
 
 pub one-finish-by-demands : OneFinishByDemands
 one-finish-by-demands m n k taken bs out a a′ x x′ d e =
-    let same : a .number ≡ a′ .number = first-one _ _ _ (d .first) (e .first) in
     let named = names-index k (m + n) (countersOf m n k bs) in
-    let index : a .index ≡ a′ .index = named (a .number) (a .index) (d .names) ∙ ap (badIndex k (m + n) (countersOf m n k bs)) same ∙ sym (named (a′ .number) (a′ .index) (e .names)) in (
-      λ i. record { number = same i; index = index i },
-      either-way (a .number) (λ l. d .untouched l ∙ sym (e .untouched (rw (← same) l)))
-          (λ z. demanded m n k taken bs out a x d z ∙ sym (demanded m n k taken bs out a′ x′ e (sym same ∙ z))),
-    )
+    same-left k (m + n) (countersOf m n k bs) a a′ x x′ _ (first-one _ _ _ (d .first) (e .first)) (named (a .number) (a .index) (d .names))
+    (named (a′ .number) (a′ .index) (e .names)) (demanded m n k taken bs out a x d) (demanded m n k taken bs out a′ x′ e) out (d .untouched) (e .untouched)

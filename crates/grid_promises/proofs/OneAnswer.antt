@@ -25,20 +25,28 @@ either-way number f g = ⊎-elim f (λ l. g (omega arith)) (lt-or-le 0 number)
 
 -- ---- a read
 
-same-reads : (m n k : ℕ) (cells counters out out′ : List ℕ) (a a′ : ReadAnswer) (x x′ : List ℕ)
-    → length out ≡ length out′ → ReadExactly m n k cells counters out a x → ReadExactly m n k cells counters out′ a′ x′ → (a ≡ a′) × (a .number ≡ 0 → x ≡ x′)
-same-reads m n k cells counters out out′ a a′ x x′ l e f =
-    let same : a .number ≡ a′ .number = e .number ∙ ap (readNumber m n k cells counters) l ∙ sym (f .number) in
-    let index : a .index ≡ a′ .index = e .indexIs ∙ ap (badIndex k (m + n) counters) same ∙ sym (f .indexIs) in
-    (λ i. record { number = same i; index = index i }, λ z. e .shown z ∙ sym (f .shown (sym same ∙ z)))
+-- two answers with one number, each with the index that goes with it, and outputs that show the same where they are accepted
+module _ (k n : ℕ) (counters : List ℕ) (a a′ : ReadAnswer) (x x′ shown : List ℕ) (same : a .number ≡ a′ .number)
+    (index : a .index ≡ badIndex k n counters (a .number)) (index′ : a′ .index ≡ badIndex k n counters (a′ .number))
+    (shows : a .number ≡ 0 → x ≡ shown) (shows′ : a′ .number ≡ 0 → x′ ≡ shown) where
+  pub same-shown : (a ≡ a′) × (a .number ≡ 0 → x ≡ x′)
+  same-shown =
+      let named : a .index ≡ a′ .index = index ∙ ap (badIndex k n counters) same ∙ sym index′ in
+      (λ i. record { number = same i; index = named i }, λ z. shows z ∙ sym (shows′ (sym same ∙ z)))
+
+  -- where a refusal leaves one output
+  pub same-left : (out : List ℕ) → (0 < a .number → x ≡ out) → (0 < a′ .number → x′ ≡ out) → (a ≡ a′) × (x ≡ x′)
+  same-left out u u′ = (same-shown .0, either-way (a .number) (λ l. u l ∙ sym (u′ (rw (← same) l))) (same-shown .1))
 
 pub output-measured : OutputMeasured
-output-measured m n k cells counters out out′ a a′ x x′ l e f = same-reads m n k cells counters out out′ a a′ x x′ l (e .exactly) (f .exactly)
+output-measured m n k cells counters out out′ a a′ x x′ l r s =
+    let e = r .exactly in
+    let f = s .exactly in
+    same-shown k (m + n) counters a a′ x x′ _ (e .number ∙ ap (readNumber m n k cells counters) l ∙ sym (f .number)) (e .indexIs) (f .indexIs) (e .shown) (f .shown)
 
 pub one-read : OneRead
 one-read m n k cells counters out a a′ x x′ e f =
-    let (same, accepted) = same-reads m n k cells counters out out a a′ x x′ refl e f in
-    (same, either-way (a .number) (λ l. e .untouched l ∙ sym (f .untouched (rw (← same) l))) accepted)
+    same-left k (m + n) counters a a′ x x′ _ (e .number ∙ sym (f .number)) (e .indexIs) (f .indexIs) (e .shown) (f .shown) out (e .untouched) (f .untouched)
 
 -- ---- plans, and stores: one number, and where they are accepted the same counts and one buffer
 

@@ -16,10 +16,14 @@ use Rattle.calls.proofs.CallLaws.{put-again, put-answer, few-elements}
 use Rattle.calls.proofs.call.transfer.Statement.{statement}
 use Rattle.calls.proofs.call.transfer.Tie as tie
 
--- where the script was run: there is room for the numbers
-room : (r : tie.After-run) → length (r .before .before .before .before .before .before .before .before .elements .result .now) + 1 ≤ 1025
+-- where the script was taken: it has few bytes
+few : (e : tie.After-elements) → length (e .elements .result .now) ≤ 1024
 unfolding table formOf
-room r = let l : length (r .before .before .before .before .before .before .before .before .elements .result .now) ≤ 1024 = few-elements _ 7 1 (r .before .before .before .before .before .before .before .before .before .before .before .before .before .before .pre) (lit< tt) (r .before .before .before .before .before .before .before .before .elements .ensures) in omega arith
+few e = few-elements _ 7 1 (e .before .before .before .before .before .before .pre) (lit< tt) (e .elements .ensures)
+
+-- where it was run: there was room for the numbers, and the output and the numbers stand at the front of their buffers
+abbrev taken-at : tie.After-run → tie.After-elements
+taken-at r = r .before .before .before .before .before .before .before .before
 
 pub transfer-spec : {M : Type 1} → statement M
 unfolding table formOf list
@@ -43,14 +47,13 @@ transfer-spec =
     -- slice-aggregate-run
     (λ c. c .before .before .before .before .before .before .before .before .load-words .ensures .fits .1)
     -- array-borrow-prefix-steps
-    (λ c. omega (arith, few-elements _ 7 1 (c .before .before .before .before .before .before .before .before .before .before .before .before .pre) (lit< tt) (c .before .before .before .before .before .before .elements .ensures)))
+    (λ c. omega (arith, few (c .before .before .before .before .before .before)))
     -- slice-aggregate-run-2
-    (λ c. let l : length (c .before .before .before .before .before .before .before .elements .result .now) ≤ 1024 = few-elements _ 7 1 (c .before .before .before .before .before .before .before .before .before .before .before .before .before .pre) (lit< tt) (c .before .before .before .before .before .before .before .elements .ensures) in sym (length-take-le _ _ (omega arith)))
+    (λ c. sym (length-take-le _ _ (omega (arith, few (c .before .before .before .before .before .before .before)))))
     -- run-requires
     (λ c κs.
-    let l : length (c .before .before .before .before .before .before .before .elements .result .now) ≤ 1024 = few-elements _ 7 1 (c .before .before .before .before .before .before .before .before .before .before .before .before .before .pre) (lit< tt) (c .before .before .before .before .before .before .before .elements .ensures) in
     let e : length (c .before .before .elements3 .result .now) ≡ length (c .before .before .before .before .before .before .before .elements .result .now) = ap length (c .before .before .elements3 .ensures ∙ sym (c .before .before .before .before .before .before .before .elements .ensures)) in
-    (omega arith, length-take-le _ _ (omega arith) ∙ ap (λ x. x + 1) (sym e)))
+    (omega (arith, few (c .before .before .before .before .before .before .before)), length-take-le _ _ (omega (arith, few (c .before .before .before .before .before .before .before))) ∙ ap (λ x. x + 1) (sym e)))
     -- put-number-requires, put-count-requires
     (λ c κs. tt) (λ c κs. tt)
     -- array-share-prefix-shown
@@ -60,9 +63,9 @@ transfer-spec =
     -- put-words-requires
     (λ c κs. tt)
     -- array-share-prefix-steps
-    (λ c. let r = c .before .before .before .before .before .before .before .before .before .before .before .before .before .before .before .before in again {r = length (r .before .before .before .before .before .before .before .before .elements .result .now) + 1} (r .run .last .1 .1 .1 .1 .1 .1 .0) _ (room r) (r .run .kept .1 .1 .1 .1 .1 .1 .0) .fits)
+    (λ c. let r = c .before .before .before .before .before .before .before .before .before .before .before .before .before .before .before .before in again {r = length (taken-at r .elements .result .now) + 1} (r .run .last .1 .1 .1 .1 .1 .1 .0) _ (omega (arith, few (taken-at r))) (r .run .kept .1 .1 .1 .1 .1 .1 .0) .fits)
     -- slice-aggregate-put-bytes
-    (λ c. let r = c .before .before .before .before .before .before .before .before .before .before .before .before .before .before .before .before .before in again {r = length (r .before .before .before .before .before .before .before .before .elements .result .now) + 1} (r .run .last .1 .1 .1 .1 .1 .1 .0) _ (room r) (r .run .kept .1 .1 .1 .1 .1 .1 .0) .count)
+    (λ c. let r = c .before .before .before .before .before .before .before .before .before .before .before .before .before .before .before .before .before in again {r = length (taken-at r .elements .result .now) + 1} (r .run .last .1 .1 .1 .1 .1 .1 .0) _ (omega (arith, few (taken-at r))) (r .run .kept .1 .1 .1 .1 .1 .1 .0) .count)
     -- put-bytes-requires, put-end-requires, same-length
     (λ c κs. tt) (λ c κs. tt) (λ c. search needs)
     -- returns
@@ -73,5 +76,5 @@ transfer-spec =
     (put-line (c .before .before .before .before .before .before .before .before .before .before .before .before .before .before .before .before .before .before .before .before .put-number .ensures)
     (word (c .before .before .before .before .before .before .before .before .before .before .before .before .before .before .before .before .put-count .ensures)
     (word (put-again 16 (again (r .run .last .1 .1 .1 .1 .1 .0) _ (r .before .before .before .before .before .before .before .before .before .before .load-words .ensures .fits .0) (r .run .kept .1 .1 .1 .1 .1 .0)) (c .before .before .before .before .before .before .before .before .before .before .before .put-words .ensures))
-    (word (put-again 2 (again {r = length (r .before .before .before .before .before .before .before .before .elements .result .now) + 1} (r .run .last .1 .1 .1 .1 .1 .1 .0) _ (room r) (r .run .kept .1 .1 .1 .1 .1 .1 .0)) (c .before .before .before .before .before .before .put-bytes .ensures))
+    (word (put-again 2 (again {r = length (taken-at r .elements .result .now) + 1} (r .run .last .1 .1 .1 .1 .1 .1 .0) _ (omega (arith, few (taken-at r))) (r .run .kept .1 .1 .1 .1 .1 .1 .0)) (c .before .before .before .before .before .before .put-bytes .ensures))
     (ended (c .before .before .put-end .ensures))))))))
