@@ -187,7 +187,7 @@ typedef struct {
     size_t rows;                             /* the three numbers that the start was given */
     size_t columns;
     size_t k;
-    size_t taken;                            /* the bytes taken since; after refusal 9 ERNAVLUQ_MAX_BLOCK_BYTES + 1, which no block has */
+    size_t taken;                            /* the bytes taken since; a lump that is refused with 9 sets it to 561, which no block has */
     uint8_t bytes[ERNAVLUQ_MAX_BLOCK_BYTES]; /* those bytes; behind them 0, or what stood there in the transfer that was passed */
 } ernavluq_transfer;
 
@@ -201,9 +201,9 @@ typedef struct {
 ernavluq_transfer_step ernavluq_transfer_start(size_t rows, size_t columns, size_t k);
 
 /* Takes a lump: its bytes follow those taken before. Lumps may follow a finish, and after a finish with refusal 8 they may complete the block.
- * Refusals: 1, if the numbers of the transfer are out of range; 9, if with this lump it would have more bytes than the block. Then no byte of the lump is
- * taken, and every later lump and finish answers 9 too, a lump of no bytes included. With 1, and where 9 was answered before, the transfer comes back as it
- * was. */
+ * Refusals: 1, if the numbers of the transfer are out of range; 9, if it has more bytes taken than the block, or would have with this lump. Then no byte of
+ * the lump is taken, and every lump and finish of the returned transfer answers 9 too, a lump of no bytes included. With 1, and where more bytes than the
+ * block has were taken already, the transfer comes back as it was. */
 ernavluq_transfer_step ernavluq_transfer_lump(ernavluq_transfer transfer, const uint8_t *bytes, size_t bytes_length);
 
 /* Finishes a block: reads it if all its bytes are there. Accepted, out holds what ernavluq_grid_read makes of the block's cells and counters. The transfer

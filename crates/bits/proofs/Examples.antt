@@ -4,6 +4,10 @@ use mathlib.Core.Bool.{true, false}
 use mathlib.Core.List.{[], _∷_}
 use Prim.Native.Nat.{_*_, _^_}
 use lib.Dec.{eqb, ltb}
+use mathlib.Core.Logic.{inl, inr}
+use native.Mathlib.Omega.{arith}
+use Rattle.bits.specs.First.{_when_, First}
+use Rattle.bits.proofs.FirstLaws.{hit, miss}
 use Rattle.bits.specs.Bits.{some, first, sum, list, has, word, words, at, bytes, number, digits}
 
 some-below : (some 4 (λ k. eqb k 3) ≡ true) × (some 3 (λ k. eqb k 3) ≡ false) × (some 0 (λ k. true) ≡ false)
@@ -54,3 +58,7 @@ digits-of-258 = (refl, refl, refl)
 number-of-digits : (number 256 (2 ∷ 1 ∷ []) ≡ 258) × (number 4 (2 ∷ 0 ∷ 0 ∷ 0 ∷ 1 ∷ []) ≡ 258) × (number 4 [] ≡ 0)
 unfolding number
 number-of-digits = (refl, refl, refl)
+
+-- of lines in the order 9, 2, 8, of which the last two apply, 2 is the first; in the order 9, 8, 2 it is not, though it is lower; where none applies, 0
+first-of-lines : First ((9 when ⊥) ∷ (2 when Unit {0}) ∷ (8 when Unit {0}) ∷ []) 2 × (First ((9 when ⊥) ∷ (8 when Unit {0}) ∷ (2 when Unit {0}) ∷ []) 2 → ⊥) × First ((9 when ⊥) ∷ []) 0
+first-of-lines = (record { found = inr (λ h. h, inl (tt, refl)) }, λ r. omega (arith, hit (miss r (λ h. h)) tt), record { found = inr (λ h. h, refl) })
