@@ -1,6 +1,6 @@
 -- Whatever meets the promise of a call is the call's line: the number decides which. Assumes nothing.
 use Prim.Native.Nat.{ℕ, zero, suc, _+_}
-use mathlib.Core.Path.{_≡_, refl, sym, ap, _∙_}
+use mathlib.Core.Path.{_≡_, refl, sym, ap, ap₂, _∙_}
 use mathlib.Core.List.{List, [], _∷_}
 use mathlib.Core.Logic.{_≢_}
 use native.Mathlib.Omega.{arith}
@@ -13,7 +13,7 @@ use Rattle.grid_promises.specs.declared.ReadAnswer.{ReadAnswer}
 use Rattle.fragment_promises.specs.declared.Transfer.{Transfer}
 use Rattle.fragment_promises.specs.Transfers.{standingOf}
 use Rattle.fragment_promises.specs.Promises.{Finishes}
-use Rattle.fragment_promises.specs.Sequences.{Event}
+use Rattle.fragment_promises.specs.Sequences.{Event, starts}
 use Rattle.fragment_promises.proofs.SequenceLaws.{as-defined}
 use Rattle.pointer_promises.specs.Pointer.{active, held, encode, verdict}
 use Rattle.pointer_promises.specs.Refusals.{InRange, outOfRange}
@@ -103,18 +103,19 @@ promised-convert m n k k′ counters out answer out′ r =
     (λ z i. record { numbers = answer .number ∷ e .indexIs i ∷ []; buffers = e .untouched (omega arith) i ∷ [] })
 
 -- a finish of a record is the line that the definitions give of that record
-finish-line : (u : Transfer) (out : List ℕ) (answer : ReadAnswer) (out′ : List ℕ) → Finishes u out answer out′
-    → record { numbers = answer .number ∷ answer .index ∷ standingOf u ∷ []; buffers = out′ ∷ [] } ≡ finished u out
-finish-line u out answer out′ f =
+finish-line : (begun : ℕ) (u : Transfer) (out : List ℕ) (answer : ReadAnswer) (out′ : List ℕ) → Finishes u out answer out′
+    → record { numbers = answer .number ∷ answer .index ∷ begun ∷ standingOf u ∷ []; buffers = out′ ∷ [] } ≡ finished begun u out
+finish-line begun u out answer out′ f =
     let e = f .exactly in
     by-number (answer .number) _ _ _
-    (λ x. record { numbers = x ∷ badIndex (u .k) (u .rows + u .columns) (heldCounters u) x ∷ standingOf u ∷ []; buffers = out ∷ [] }) (e .number)
-    (λ z i. record { numbers = z i ∷ f .demands .names .none (λ h. omega (arith, z)) i ∷ standingOf u ∷ []; buffers = e .shown z i ∷ [] })
-    (λ z i. record { numbers = answer .number ∷ e .indexIs i ∷ standingOf u ∷ []; buffers = e .untouched (omega arith) i ∷ [] })
+    (λ x. record { numbers = x ∷ badIndex (u .k) (u .rows + u .columns) (heldCounters u) x ∷ begun ∷ standingOf u ∷ []; buffers = out ∷ [] }) (e .number)
+    (λ z i. record { numbers = z i ∷ f .demands .names .none (λ h. omega (arith, z)) i ∷ begun ∷ standingOf u ∷ []; buffers = e .shown z i ∷ [] })
+    (λ z i. record { numbers = answer .number ∷ e .indexIs i ∷ begun ∷ standingOf u ∷ []; buffers = e .untouched (omega arith) i ∷ [] })
 
 promised-transfer : (m n k : ℕ) (calls : List Event) (out : List ℕ) → Promised (transfer m n k calls out) (line (transfer m n k calls out))
 unfolding line
-promised-transfer m n k calls out t u answer out′ c f = finish-line u out answer out′ f ∙ ap (λ v. finished v out) (as-defined t u m n k calls c)
+promised-transfer m n k calls out s u answer out′ b c f =
+    finish-line (s .number) u out answer out′ f ∙ ap₂ (λ x v. finished x v out) (ap (λ s. s .number) (b .exactly)) (as-defined (s .transfer) u m n k calls (starts (b .demands) c))
 
 -- so every call's line is promised
 pub promised : (c : Call) → Promised c (line c)

@@ -7,12 +7,20 @@ use Rattle.fragment_promises.specs.Sequences.{Event, start, lump, finish}
 use Rattle.cases.specs.Lines.{Line, Call, transfer}
 use Rattle.cases.specs.Table.{Row}
 
--- a finish that is accepted and fills the output, and one that is refused with this number and index; the last start or lump answered `stood`
+-- a finish that is accepted and fills the output, and one that is refused with this number and index. The first start answered 0; in the end the record stands at
+-- 0, or at this
 abbrev pub filled : List ℕ → Line
-filled out = record { numbers = 0 ∷ 0 ∷ 0 ∷ []; buffers = out ∷ [] }
+filled out = record { numbers = 0 ∷ 0 ∷ 0 ∷ 0 ∷ []; buffers = out ∷ [] }
 
 abbrev pub refuses : (number index stood : ℕ) → List ℕ → Line
-refuses number index stood out = record { numbers = number ∷ index ∷ stood ∷ []; buffers = out ∷ [] }
+refuses number index stood out = record { numbers = number ∷ index ∷ 0 ∷ stood ∷ []; buffers = out ∷ [] }
+
+-- the same where the first start answered 1
+abbrev pub filledLater : List ℕ → Line
+filledLater out = record { numbers = 0 ∷ 0 ∷ 1 ∷ 0 ∷ []; buffers = out ∷ [] }
+
+abbrev pub refusesAll : List ℕ → Line
+refusesAll out = record { numbers = 1 ∷ 0 ∷ 1 ∷ 1 ∷ []; buffers = out ∷ [] }
 
 -- a word of one byte and seven that are 0
 abbrev pub word : ℕ → List ℕ
@@ -61,12 +69,13 @@ fragmentEdges =
     -- an output of another length: 2, ahead of 8 and of what the block holds, after 9
     ∷ record { call = transfer 2 3 3 (lump block ∷ []) (7 ∷ 8 ∷ 9 ∷ []); expected = refuses 2 0 0 (7 ∷ 8 ∷ 9 ∷ []) }
     ∷ record { call = transfer 2 3 3 (lump cut ∷ []) (7 ∷ []); expected = refuses 2 0 0 (7 ∷ []) }
+    ∷ record { call = transfer 2 3 3 (lump cut ∷ []) (7 ∷ 8 ∷ 9 ∷ []); expected = refuses 2 0 0 (7 ∷ 8 ∷ 9 ∷ []) }
     ∷ record { call = transfer 2 3 3 (lump (block ++ (0 ∷ [])) ∷ []) (7 ∷ 8 ∷ 9 ∷ []); expected = refuses 9 0 9 (7 ∷ 8 ∷ 9 ∷ []) }
     -- numbers out of range: 1, ahead of all else, until a start with others
-    ∷ record { call = transfer 0 3 3 [] []; expected = refuses 1 0 1 [] }
-    ∷ record { call = transfer 2 65 3 (lump block ∷ []) (7 ∷ []); expected = refuses 1 0 1 (7 ∷ []) }
-    ∷ record { call = transfer 2 3 8 (lump (replicate 600 0) ∷ lump [] ∷ finish lent ∷ []) lent; expected = refuses 1 0 1 lent }
-    ∷ record { call = transfer 2 3 0 (lump block ∷ start 2 3 3 ∷ lump block ∷ []) lent; expected = filled (5 ∷ 4 ∷ []) }
+    ∷ record { call = transfer 0 3 3 [] []; expected = refusesAll [] }
+    ∷ record { call = transfer 2 65 3 (lump block ∷ []) (7 ∷ []); expected = refusesAll (7 ∷ []) }
+    ∷ record { call = transfer 2 3 8 (lump (replicate 600 0) ∷ lump [] ∷ finish lent ∷ []) lent; expected = refusesAll lent }
+    ∷ record { call = transfer 2 3 0 (lump block ∷ start 2 3 3 ∷ lump block ∷ []) lent; expected = filledLater (5 ∷ 4 ∷ []) }
     ∷ record { call = twoByThree (lump block ∷ start 65 3 3 ∷ lump block ∷ []); expected = refuses 1 0 1 lent }
     -- a bit past the last column, in either row, a high one, and a spare bit of the counters: 3, but 8 while bytes are missing
     ∷ record { call = twoByThree (lump (0xE4 ∷ 0x01 ∷ (word 13 ++ word 3)) ∷ []); expected = refuses 3 0 0 lent }

@@ -12,7 +12,7 @@ use Rattle.rdis.specs.Packing.{width, inOrder, packed, unpacked, counter, rowCo
 use Rattle.grid_promises.specs.Calls.{readNumber, planNumber, storeNumber, used, rowsOf, columnsOf, badIndex}
 use Rattle.grid_promises.specs.Conversion.{convertNumber}
 use Rattle.fragment_promises.specs.declared.Transfer.{Transfer}
-use Rattle.fragment_promises.specs.Transfers.{standingOf, held, started, countersOf, cellsOf, finishNumber}
+use Rattle.fragment_promises.specs.Transfers.{standing, standingOf, held, started, countersOf, cellsOf, finishNumber}
 use Rattle.fragment_promises.specs.Sequences.{Event, run}
 use Rattle.pointer_promises.specs.Pointer as pointer
 
@@ -64,7 +64,7 @@ readRefused m n k counters number = number ∷ badIndex k (m + n) counters numbe
 abbrev pub storeRefused : Block → ℕ → (counters : List ℕ) → ℕ → List ℕ
 storeRefused b k counters number = uncounted number (badIndex k (b .rows + b .columns) counters number)
 
--- of a finish of a record: where it is refused, what the record stands at comes after the index
+-- the line of a finish of a record, after a start that answered `begun`: that, and what the record stands at, come after the number and the index
 abbrev pub finishOf : Transfer → List ℕ → ℕ
 finishOf t out = finishNumber (t .rows) (t .columns) (t .k) (t .taken) (held t) (length out)
 
@@ -74,14 +74,14 @@ heldCounters t = countersOf (t .rows) (t .columns) (t .k) (held t)
 abbrev pub heldCells : Transfer → List ℕ
 heldCells t = cellsOf (t .rows) (t .columns) (t .k) (held t)
 
-abbrev pub finished : Transfer → List ℕ → Line
-finished t out =
+abbrev pub finished : ℕ → Transfer → List ℕ → Line
+finished begun t out =
     byNumber (finishOf t out)
     (record {
-      numbers = 0 ∷ 0 ∷ standingOf t ∷ [];
+      numbers = 0 ∷ 0 ∷ begun ∷ standingOf t ∷ [];
       buffers = reading (t .rows) (t .columns) (rowCounter (width (t .k)) (heldCounters t)) (columnCounter (width (t .k)) (t .rows) (heldCounters t)) (heldCells t) ∷ [];
     })
-    (record { numbers = finishOf t out ∷ badIndex (t .k) (t .rows + t .columns) (heldCounters t) (finishOf t out) ∷ standingOf t ∷ []; buffers = out ∷ [] })
+    (record { numbers = finishOf t out ∷ badIndex (t .k) (t .rows + t .columns) (heldCounters t) (finishOf t out) ∷ begun ∷ standingOf t ∷ []; buffers = out ∷ [] })
 
 -- where it is refused, the counts are 0 and the buffers as they were
 unfoldable pub line : Call → Line
@@ -125,4 +125,4 @@ line (gridConvert m n k k′ counters out) =
     byNumber (convertNumber m n k k′ counters (length out))
     (record { numbers = 0 ∷ 0 ∷ []; buffers = packed (width k′) (unpacked (width k) (m + n) counters) ∷ [] })
     (record { numbers = readRefused m n k counters (convertNumber m n k k′ counters (length out)); buffers = out ∷ [] })
-line (transfer m n k calls out) = finished (run (started m n k) calls) out
+line (transfer m n k calls out) = finished (standing m n k 0) (run (started m n k) calls) out

@@ -10,8 +10,9 @@ use Rattle.grid_promises.specs.declared.ConvertAnswer.{ConvertAnswer}
 use Rattle.grid_promises.specs.declared.Answer as gridAnswer
 use Rattle.fragment_promises.specs.declared.Transfer.{Transfer}
 use Rattle.fragment_promises.specs.Transfers.{standingOf}
-use Rattle.fragment_promises.specs.Promises.{Finishes}
-use Rattle.fragment_promises.specs.Sequences.{start, Calls}
+use Rattle.fragment_promises.specs.declared.Step.{Step}
+use Rattle.fragment_promises.specs.Promises.{Start, Finishes}
+use Rattle.fragment_promises.specs.Sequences.{Calls}
 use Rattle.pointer_promises.specs.Pointer.{held, after, verdict}
 use Rattle.pointer_promises.specs.Promises as pointer
 use Rattle.pointer_promises.specs.declared.ReadAnswer.{ReadAnswer}
@@ -64,10 +65,10 @@ Promised (gridStore b k counters cells) l =
 Promised (gridConvert m n k k′ counters out) l =
     (answer : ConvertAnswer) (out′ : List ℕ) → Convert m n k k′ counters out answer out′
     → record { numbers = answer .number ∷ answer .index ∷ []; buffers = out′ ∷ [] } ≡ l
--- from any record on; what the record stands at is what the last start or lump answered
+-- after the number and the index: what the start answered, and what the record stands at in the end
 Promised (transfer m n k calls out) l =
-    (t u : Transfer) (answer : gridReadAnswer.ReadAnswer) (out′ : List ℕ) → Calls t (start m n k ∷ calls) u → Finishes u out answer out′
-    → record { numbers = answer .number ∷ answer .index ∷ standingOf u ∷ []; buffers = out′ ∷ [] } ≡ l
+    (s : Step) (u : Transfer) (answer : gridReadAnswer.ReadAnswer) (out′ : List ℕ) → Start m n k s → Calls (s .transfer) calls u → Finishes u out answer out′
+    → record { numbers = answer .number ∷ answer .index ∷ s .number ∷ standingOf u ∷ []; buffers = out′ ∷ [] } ≡ l
 
 -- each of these rows is promised
 abbrev pub Every : List Row → Type 0

@@ -2,12 +2,12 @@
 use Prim.Native.Nat.{ℕ, _+_, _^_, _<_, _≤_}
 use mathlib.Core.Path.{_≡_, refl, sym, ap, subst, _∙_}
 use mathlib.Core.List.{List, [], _∷_, _++_, append-assoc, append-nil}
-use mathlib.Core.Logic.{_≢_}
+use mathlib.Core.Logic.{_≢_, inr, ⊎-elim}
 use native.Mathlib.Nat.{lt-of-lt-of-le, pow-le-pow-right}
 use native.Mathlib.Omega.{arith}
 use lib.ListN.{length}
 use Rattle.bits.specs.Bits.{Below}
-use Rattle.bits.proofs.FirstLaws.{hit, miss}
+use Rattle.bits.proofs.FirstLaws.{hit, miss, missed}
 use Rattle.grid_promises.specs.Promises.{Read}
 use Rattle.grid_promises.specs.Refusals.{InRange}
 use Rattle.grid_promises.specs.declared.ReadAnswer.{ReadAnswer}
@@ -17,11 +17,11 @@ use Rattle.grid_promises.proofs.StoreDemands.{store-range, store-lengths, store
 use Rattle.fragment_promises.specs.Transfers.{counterBytes, size, wordBytes}
 use Rattle.fragment_promises.specs.Demands.{FinishDemands}
 use Rattle.fragment_promises.specs.Sequences.{lump, none, starts, takes, ends, Story, begun, tell, story}
-use Rattle.fragment_promises.specs.Sequences.{Whole, Sent, StoreThenSend, RefusedWith, Short, Long, Bad, lumps, joined, Joined, TwoCuttings, AnyCutting, EmptyLump, FinishBetween, StartsAfresh, Refused, Stays}
+use Rattle.fragment_promises.specs.Sequences.{Whole, Sent, StoreThenSend, RefusedWith, Short, Long, Bad, lumps, joined, Joined, TwoCuttings, AnyCutting, EmptyLump, FinishBetween, StartsAfresh, EveryStart, Nine, EverAfter, NotTaken, WrongOutput, Refused, Stays}
 use Rattle.fragment_promises.proofs.BlockLaws.{counters-back, cells-back, block-length, block-below}
 use Rattle.fragment_promises.proofs.FinishLaws.{demands-read, one-finish-by-demands}
-use Rattle.fragment_promises.proofs.StepLaws.{lump-unchanged, lump-empty}
-use Rattle.fragment_promises.proofs.SequenceLaws.{every-finish}
+use Rattle.fragment_promises.proofs.StepLaws.{refused-number, lump-unchanged, lump-empty}
+use Rattle.fragment_promises.proofs.SequenceLaws.{too-long, every-finish}
 
 -- ---- a whole block
 
@@ -77,6 +77,13 @@ module _ (m n k taken : ℕ) (bs out : List ℕ) (a : ReadAnswer) (after : List 
   refused-short r g o l =
       refused-with 8 (omega arith) (λ e. omega arith) (hit (miss (miss (miss (d .first) (λ h. h r)) (λ h. omega arith)) (λ h. h o)) l)
 
+  refused-output : InRange m n k → taken ≤ size m n k → length out ≢ m → RefusedWith 2 out a after
+  refused-output r g o = refused-with 2 (omega arith) (λ e. omega arith) (hit (miss (miss (d .first) (λ h. h r)) (λ h. omega arith)) o)
+
+pub wrong-output : WrongOutput
+wrong-output t u m n k es out a after c f r l o =
+    let h = story (begun m n k) es in refused-output _ _ _ _ (h .sent) out a after (every-finish t u m n k es out a after c f) r l o
+
 pub short-block : Short
 short-block t u m n k es out a after c f r o l =
     let h = story (begun m n k) es in refused-short _ _ _ _ (h .sent) out a after (every-finish t u m n k es out a after c f) r (omega arith) o l
@@ -110,12 +117,12 @@ two-cuttings t u t′ u′ m n k bss css out a a′ x x′ e =
     (tells (begun m n k) bss ∙ (λ i. record { rows = m; columns = n; k = k; sent = e i }) ∙ sym (tells (begun m n k) css))
 
 pub joined-lumps : Joined
-joined-lumps t u m n k bss out a after r o b c f =
+joined-lumps t u m n k bss out a after r o c f =
     let e = tells (begun m n k) bss in
     let d : FinishDemands m n k (length (joined bss)) (joined bss) out a after =
     subst (λ X. X) (λ i. FinishDemands (e i .rows) (e i .columns) (e i .k) (length (e i .sent)) (e i .sent) out a after) (every-finish t u m n k (lumps bss) out a after c f) in
     record {
-      asLong = λ l. demands-read m n k (length (joined bss)) (joined bss) out a after b r (omega arith) (omega arith) d;
+      asLong = λ b l. demands-read m n k (length (joined bss)) (joined bss) out a after b r (omega arith) (omega arith) d;
       shorter = λ l. refused-short m n k (length (joined bss)) (joined bss) out a after d r (omega arith) o l;
       longer = λ l. refused-long m n k (length (joined bss)) (joined bss) out a after d r l;
     }
@@ -135,9 +142,24 @@ starts-afresh h m n k (e ∷ es) es′ = starts-afresh (tell h e) m n k es es′
 
 -- ---- refusals that stay
 
+pub every-start : EveryStart
+every-start m n k s d = record { bad = hit (d .first); good = λ r. missed (miss (d .first) (λ h. h r)) }
+
+pub not-taken : NotTaken
+not-taken t bs s d h = d .kept (refused-number t bs _ (d .first) h)
+
 pub stays : Stays
 stays t u es r q none = refl
 stays t u es r q (starts d c) = absurd q
 stays t u es r q (takes {bs} {s} {es = fs} d c) =
     let e = lump-unchanged t bs s d r in stays (s .transfer) u fs (subst Refused (sym e) r) q c ∙ e
 stays t u es r q (ends {es = fs} d c) = stays t u fs r q c
+
+pub ever-after : EverAfter
+ever-after t u v m n k es more c c′ q r l =
+    let (good, over) = too-long t u m n k es c r l in
+    let same : v ≡ u = stays u v more (inr over) q c′ in
+    subst Nine (sym same) (record {
+      lumps = λ bs s d. hit (miss (d .first) (λ h. h good)) (omega arith);
+      finishes = λ out a after d. refused-long _ _ _ _ _ out a after d good over;
+    })

@@ -5,7 +5,7 @@ use mathlib.Core.Bool.{xor}
 use mathlib.Core.List.{List, [], _∷_}
 use native.Mathlib.Omega.{arith}
 use lib.Dec.{lit<}
-use lib.ListN.{replicate}
+use lib.ListN.{take, replicate}
 use Rattle.bits.specs.Bits.{some, first, list, has, word, words, number, Below}
 use Rattle.rdis.specs.Block.{bit}
 use Rattle.rdis.specs.Cells.{flips, reading}
@@ -38,6 +38,11 @@ first-lump = record { exactly = refl; demands = lump-demands (started 1 1 1) fou
 pub second-lump : Lump after-four five (record { number = 0; transfer = after-nine })
 unfolding lumped standing size width bytesFor inRange
 second-lump = record { exactly = refl; demands = lump-demands after-four five refl }
+
+-- a lump of six ones is one byte too many: none of them is taken, and 561 bytes count as taken
+refused-lump : let t = lumped after-four (1 ∷ 1 ∷ 1 ∷ 1 ∷ 1 ∷ 1 ∷ []) in (t .taken ≡ 561) × (take 10 (t .bytes) ≡ 3 ∷ replicate 9 0)
+unfolding lumped standing size width bytesFor inRange
+refused-lump = (refl, refl)
 
 below : (n : ℕ) → Below 256 (3 ∷ replicate n 0)
 below n zero = lit< tt

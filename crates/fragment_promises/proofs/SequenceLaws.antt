@@ -152,6 +152,15 @@ pub as-defined : AsDefined
 as-defined t u m n k es (starts {s = s} d c) =
     as-run (s .transfer) u es (d .room) c ∙ ap (λ s. run (s .transfer) es) (one-start-by-demands m n k s _ d (start-promise m n k .demands))
 
+-- more was sent than the block has: the record stands at 9
+pub too-long : (t u : Transfer) (m n k : ℕ) (es : List Event) → Calls t (start m n k ∷ es) u
+    → let h = story (begun m n k) es in Fine h → whole h < length (h .sent) → Good u × (sizeOf u < u .taken)
+too-long t u m n k es c r l =
+    let h = story (begun m n k) es in
+    let a = agree t u m n k es c in
+    let good = fine-good h u a r in
+    (good, a .over good (omega (arith, same-size h u a)))
+
 -- ---- the theorem
 
 pub every-lump : EveryLump

@@ -76,10 +76,14 @@ module _ (t : Transfer) (bs : List ℕ) where
   long-number : (x : ℕ) → lumpFirst x → Good t → sizeOf t < t .taken + length bs → x ≡ 9
   long-number x f r l = hit (miss f (λ h. h r)) l
 
-  ill-number : (x : ℕ) → lumpFirst x → (Good t → ⊥) ⊎ (sizeOf t < t .taken) → 0 < x
-  ill-number x f h =
+  pub refused-number : (x : ℕ) → lumpFirst x → (Good t → ⊥) ⊎ (sizeOf t < t .taken + length bs) → 0 < x
+  refused-number x f h =
       ⊎-elim (λ n. omega (arith, hit f n))
-      (λ l. ⊎-elim (λ (n, e). omega arith) (λ (n, g). ⊎-elim (λ (p, e). omega arith) (λ (q, e). absurd (q (omega arith))) g) (f .found)) h
+      (λ l. ⊎-elim (λ (n, e). omega arith) (λ (n, g). ⊎-elim (λ (p, e). omega arith) (λ (q, e). absurd (q l)) g) (f .found)) h
+
+  -- as it was before
+  ill-number : (x : ℕ) → lumpFirst x → (Good t → ⊥) ⊎ (sizeOf t < t .taken) → 0 < x
+  ill-number x f h = refused-number x f (⊎-elim inl (λ l. inr (omega arith)) h)
 
   -- ---- nothing else keeps the demands
   module _ (s s′ : Step) (d : LumpDemands t bs s) (e : LumpDemands t bs s′) where

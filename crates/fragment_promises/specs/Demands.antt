@@ -67,16 +67,16 @@ cellBit m n k bs i j = at bs (8 * (counterBytes m n k + 8 * i) + j)
 abbrev pub PastBytes : ℕ → ℕ → ℕ → List ℕ → Type 0
 PastBytes m n k bs = (i : ℕ) × (j : ℕ) × (i < m) × (n ≤ j) × (j < 64) × (cellBit m n k bs i j ≡ true)
 
--- its refusals in the order in which they are judged. Of the output only the length counts
+-- its refusals in the order in which they are judged: those of numbers and lengths, and then others. So many bytes were taken, and so many are held
+abbrev pub lengthRefusals : (m n k taken held out : ℕ) → List Refusal → List Refusal
+lengthRefusals m n k taken held out others =
+    (1 when (InRange m n k → ⊥)) ∷ (9 when (size m n k < taken)) ∷ (2 when (out ≢ m)) ∷ (8 when (held < size m n k)) ∷ others
+
+-- of a whole block those of a read. Of the output only the length counts
 abbrev pub finishRefusals : ℕ → ℕ → ℕ → ℕ → List ℕ → ℕ → List Refusal
 finishRefusals m n k taken bs out =
-    (1 when (InRange m n k → ⊥))
-    ∷ (9 when (size m n k < taken))
-    ∷ (2 when (out ≢ m))
-    ∷ (8 when (length bs < size m n k))
-    ∷ (3 when (PastBytes m n k bs ⊎ Spare (width k) (m + n) (countersOf m n k bs)))
-    ∷ (4 when Above k (m + n) (countersOf m n k bs))
-    ∷ []
+    lengthRefusals m n k taken (length bs) out
+    ((3 when (PastBytes m n k bs ⊎ Spare (width k) (m + n) (countersOf m n k bs))) ∷ (4 when Above k (m + n) (countersOf m n k bs)) ∷ [])
 
 -- lent `out`, which holds `after` at the end
 pub record FinishDemands (m n k taken : ℕ) (bs out : List ℕ) (answer : ReadAnswer) (after : List ℕ) : Type 0 where

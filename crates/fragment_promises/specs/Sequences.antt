@@ -1,9 +1,9 @@
 -- Starts, lumps and finishes in any order, and what they come to: the read of the bytes sent since the last start, however they were cut. It is said of whatever
 -- keeps the demands. Assumes nothing.
-use Prim.Native.Nat.{ℕ, _<_, _^_}
+use Prim.Native.Nat.{ℕ, _+_, _<_, _≤_, _^_}
 use mathlib.Core.Path.{_≡_}
 use mathlib.Core.List.{List, [], _∷_, _++_}
-use mathlib.Core.Logic.{_⊎_}
+use mathlib.Core.Logic.{_⊎_, _≢_}
 use lib.ListN.{length}
 use Rattle.bits.specs.Bits.{Below}
 use Rattle.bits.specs.First.{_when_, First}
@@ -122,7 +122,14 @@ pub record RefusedWith (x : ℕ) (out : List ℕ) (a : ReadAnswer) (after : List
   pub index : a .index ≡ 0
   pub untouched : after ≡ out
 
--- fewer bytes were sent: 8, whatever they are
+-- an output of another length: 2, while no more bytes were sent than the block has, ahead of all that is judged of them
+abbrev pub WrongOutput : Type 0
+WrongOutput =
+    (t u : Transfer) (m n k : ℕ) (es : List Event) (out : List ℕ) (a : ReadAnswer) (after : List ℕ)
+    → Calls t (start m n k ∷ es) u → FinishesBy u out a after
+    → let h = story (begun m n k) es in Fine h → length (h .sent) ≤ whole h → length out ≢ h .rows → RefusedWith 2 out a after
+
+-- fewer bytes were sent, and the output has the right length: 8, whatever they are
 abbrev pub Short : Type 0
 Short =
     (t u : Transfer) (m n k : ℕ) (es : List Event) (out : List ℕ) (a : ReadAnswer) (after : List ℕ)
@@ -141,6 +148,38 @@ Bad =
     (t u : Transfer) (m n k : ℕ) (es : List Event) (out : List ℕ) (a : ReadAnswer) (after : List ℕ)
     → Calls t (start m n k ∷ es) u → FinishesBy u out a after → let h = story (begun m n k) es in (Fine h → ⊥) → RefusedWith 1 out a after
 
+-- ---- 1 at the start, and 9 there and ever after
+
+-- a start itself answers 1 for bad numbers, and else 0
+pub record StartAnswers (m n k : ℕ) (s : Step) : Type 0 where
+  pub bad : (InRange m n k → ⊥) → s .number ≡ 1
+  pub good : InRange m n k → s .number ≡ 0
+
+abbrev pub EveryStart : Type 0
+EveryStart = (m n k : ℕ) (s : Step) → StartDemands m n k s → StartAnswers m n k s
+
+-- calls without a start
+abbrev pub NoStart : List Event → Type 0
+NoStart [] = Unit {0}
+NoStart (start m n k ∷ es) = ⊥
+NoStart (lump bs ∷ es) = NoStart es
+NoStart (finish out ∷ es) = NoStart es
+
+-- lumps and finishes of this record answer 9
+pub record Nine (v : Transfer) : Type 0 where
+  pub lumps : (bs : List ℕ) (s : Step) → LumpDemands v bs s → s .number ≡ 9
+  pub finishes : (out : List ℕ) (a : ReadAnswer) (after : List ℕ) → FinishesBy v out a after → RefusedWith 9 out a after
+
+-- more bytes were sent than the block has: 9, and so after any further calls without a start
+abbrev pub EverAfter : Type 0
+EverAfter =
+    (t u v : Transfer) (m n k : ℕ) (es more : List Event) → Calls t (start m n k ∷ es) u → Calls u more v → NoStart more
+    → let h = story (begun m n k) es in Fine h → whole h < length (h .sent) → Nine v
+
+-- a refused lump leaves the bytes that are held, and all others
+abbrev pub NotTaken : Type 0
+NotTaken = (t : Transfer) (bs : List ℕ) (s : Step) → LumpDemands t bs s → (Good t → ⊥) ⊎ (sizeOf t < t .taken + length bs) → s .transfer .bytes ≡ t .bytes
+
 -- ---- one start and lumps alone
 
 abbrev pub lumps : List (List ℕ) → List Event
@@ -153,13 +192,13 @@ joined (bs ∷ bss) = bs ++ joined bss
 
 -- how a finish ends by the joined bytes B
 pub record ByLength (m n k : ℕ) (B out : List ℕ) (a : ReadAnswer) (after : List ℕ) : Type 0 where
-  pub asLong : length B ≡ size m n k → Read m n k (cellsOf m n k B) (countersOf m n k B) out a after
+  pub asLong : Below 256 B → length B ≡ size m n k → Read m n k (cellsOf m n k B) (countersOf m n k B) out a after
   pub shorter : length B < size m n k → RefusedWith 8 out a after
   pub longer : size m n k < length B → RefusedWith 9 out a after
 
 abbrev pub Joined : Type 0
 Joined =
-    (t u : Transfer) (m n k : ℕ) (bss : List (List ℕ)) (out : List ℕ) (a : ReadAnswer) (after : List ℕ) → InRange m n k → length out ≡ m → Below 256 (joined bss)
+    (t u : Transfer) (m n k : ℕ) (bss : List (List ℕ)) (out : List ℕ) (a : ReadAnswer) (after : List ℕ) → InRange m n k → length out ≡ m
     → Calls t (start m n k ∷ lumps bss) u → FinishesBy u out a after → ByLength m n k (joined bss) out a after
 
 -- two ways to cut the same bytes end the same
@@ -193,12 +232,6 @@ StartsAfresh = (h : Story) (m n k : ℕ) (es es′ : List Event) → story h (es
 
 abbrev pub Refused : Transfer → Type 0
 Refused t = (Good t → ⊥) ⊎ (sizeOf t < t .taken)
-
-abbrev pub NoStart : List Event → Type 0
-NoStart [] = Unit {0}
-NoStart (start m n k ∷ es) = ⊥
-NoStart (lump bs ∷ es) = NoStart es
-NoStart (finish out ∷ es) = NoStart es
 
 abbrev pub Stays : Type 0
 Stays = (t u : Transfer) (es : List Event) → Refused t → NoStart es → Calls t es u → u ≡ t

@@ -1,7 +1,7 @@
 -- The refusals of a finish by numbers and lengths, and the finish that follows from them. Assumes nothing.
 use Prim.Native.Nat.{ℕ, _<_, _≤_}
 use mathlib.Core.Path.{_≡_, refl, sym, _∙_}
-use mathlib.Core.List.{List}
+use mathlib.Core.List.{List, []}
 use mathlib.Core.Logic.{_≢_, inl, inr, ⊎-elim}
 use native.Mathlib.Omega.{arith}
 use lib.ListN.{length}
@@ -17,16 +17,15 @@ use Rattle.grid_promises.proofs.RefusalLaws.{in-range}
 use Rattle.grid_promises.proofs.IndexLaws.{no-index}
 use Rattle.fragment_promises.specs.declared.Transfer.{Transfer}
 use Rattle.fragment_promises.specs.Transfers.{size, sizeOf, standing, held, cellsOf, countersOf}
-use Rattle.fragment_promises.specs.Demands.{Good, finishRefusals}
+use Rattle.fragment_promises.specs.Demands.{Good, lengthRefusals, finishRefusals}
 use Rattle.fragment_promises.specs.Promises.{Finishes}
 use Rattle.fragment_promises.proofs.StandingLaws.{stands, well-range, well-taken, size-most}
 use Rattle.fragment_promises.proofs.FinishLaws.{finish-first, finish-reads, finish-promise}
-use Rattle.fragments.specs.Steps.{unfinished}
 
 -- ---- judged
 
 module _ (m n k taken out : ℕ) where
-  pub un-standing : (x : ℕ) → x ≡ standing m n k taken → x ≢ 0 → First (unfinished m n k taken out) x
+  pub un-standing : (x : ℕ) → x ≡ standing m n k taken → x ≢ 0 → First (lengthRefusals m n k taken taken out []) x
   un-standing x e h = record {
     found = ⊎-elim (λ (p, f). inl (p, e ∙ f)) (λ (p, f). inr (p, ⊎-elim (λ (q, g). inl (q, e ∙ g)) (λ (q, z). absurd (h (e ∙ z))) f)) (stands m n k taken .found);
   }
@@ -38,19 +37,19 @@ module _ (m n k taken out : ℕ) where
     fits : size m n k < taken → ⊥
     fits l = omega (arith, well-taken m n k taken z)
 
-    pub un-2 : out ≢ m → First (unfinished m n k taken out) 2
+    pub un-2 : out ≢ m → First (lengthRefusals m n k taken taken out []) 2
     un-2 h = record { found = inr (good, inr (fits, inl (h, refl))) }
 
-    pub un-8 : out ≡ m → taken < size m n k → First (unfinished m n k taken out) 8
+    pub un-8 : out ≡ m → taken < size m n k → First (lengthRefusals m n k taken taken out []) 8
     un-8 e l = record { found = inr (good, inr (fits, inr (λ h. h e, inl (l, refl)))) }
 
-    pub un-0 : out ≡ m → size m n k ≤ taken → First (unfinished m n k taken out) 0
+    pub un-0 : out ≡ m → size m n k ≤ taken → First (lengthRefusals m n k taken taken out []) 0
     un-0 e l = record { found = inr (good, inr (fits, inr (λ h. h e, inr (λ g. omega arith, refl)))) }
 
 -- ---- a finish
 
 module _ (t : Transfer) (out : List ℕ) (x : ℕ) (room : length (t .bytes) ≡ 560) (bytes : Below 256 (held t))
-    (f : First (unfinished (t .rows) (t .columns) (t .k) (t .taken) (length out)) x) where
+    (f : First (lengthRefusals (t .rows) (t .columns) (t .k) (t .taken) (t .taken) (length out) []) x) where
   held-length : Good t → t .taken ≤ sizeOf t → length (held t) ≡ t .taken
   held-length r l = length-take-le (t .taken) (t .bytes) (omega (arith, size-most _ _ _ r))
 
@@ -85,7 +84,7 @@ module _ (t : Transfer) (out : List ℕ) (x : ℕ) (room : length (t .bytes) ≡
       shown = λ z. absurd (h z);
     })
       where
-        not-four : x ≡ 4 → First (unfinished (t .rows) (t .columns) (t .k) (t .taken) (length out)) x → ⊥
+        not-four : x ≡ 4 → First (lengthRefusals (t .rows) (t .columns) (t .k) (t .taken) (t .taken) (length out) []) x → ⊥
         not-four z f = omega (arith, missed (skip (skip (skip (skip f (λ e. omega arith)) (λ e. omega arith)) (λ e. omega arith)) (λ e. omega arith)))
 
   -- whole: it is the read

@@ -1,4 +1,4 @@
--- What a step of the code makes. Assumes nothing.
+-- How a lump is judged. Assumes nothing.
 use Prim.Native.Nat.{ℕ, _+_, _<_, _≤_}
 use mathlib.Core.Path.{_≡_}
 use mathlib.Core.List.{List, [], _∷_}
@@ -7,10 +7,6 @@ use Rattle.bits.specs.First.{Refusal, _when_}
 use Rattle.grid_promises.specs.Refusals.{InRange}
 use Rattle.fragment_promises.specs.Transfers.{size, standing}
 use Rattle.fragments.specs.declared.Judged.{Judged}
-
--- the refusals of a finish that numbers and lengths give, in their order
-abbrev pub unfinished : ℕ → ℕ → ℕ → ℕ → ℕ → List Refusal
-unfinished m n k taken out = (1 when (InRange m n k → ⊥)) ∷ (9 when (size m n k < taken)) ∷ (2 when (out ≢ m)) ∷ (8 when (taken < size m n k)) ∷ []
 
 -- how a lump of `more` bytes goes: it is refused as lumps before it were, or taken, or refused
 pub data Judges (m n k taken more : ℕ) (j : Judged) : Type 0 where

@@ -10,14 +10,16 @@ use refusals::OUT_OF_RANGE;
 use refusals::SHORT_BLOCK;
 use refusals::WRONG_LENGTH;
 ghost use mathlib.Core.Path.{_≡_};
+ghost use mathlib.Core.List.{[]};
 ghost use Prim.Native.Nat.{_+_, _*_, _≤_};
 ghost use lib.ListN.{length, take};
 ghost use Rattle.bits.specs.First.{First};
 ghost use Rattle.grid_promises.specs.Refusals.{InRange};
 ghost use Rattle.grid_promises.specs.Promises.{Read};
 ghost use Rattle.fragment_promises.specs.Transfers.{counterBytes, size as sizeIs, standing as standingIs, countersOf, cellsOf, wordsFrom};
+ghost use Rattle.fragment_promises.specs.Demands.{lengthRefusals};
 ghost use Rattle.fragment_promises.specs.Promises.{Start, Lump, Finishes};
-ghost use Rattle.fragments.specs.Steps.{Judges, unfinished as unfinishedBy};
+ghost use Rattle.fragments.specs.Steps.{Judges};
 
 // After a refused lump so many bytes count as taken: more than any block has.
 const TOO_MANY: usize = LONGEST + 1;
@@ -122,7 +124,7 @@ pub fn lump(t: Transfer, bytes: &[u8]) -> Step
 
 // The refusal of a finish by numbers and lengths: 1, 9, 2, 8 or else 0.
 fn unfinished(rows: usize, columns: usize, k: usize, taken: usize, out: usize) -> usize
-    ensures { λ r. ⌜ First (unfinishedBy rows columns k taken out) r ⌝ }
+    ensures { λ r. ⌜ First (lengthRefusals rows columns k taken taken out []) r ⌝ }
 {
     let number = standing(rows, columns, k, taken);
     if number != ACCEPTED {
