@@ -21,6 +21,10 @@ module _ {o x : ℕ} {P : Type 0} {rs : List Refusal} where
   pub skip : First ((o when P) ∷ rs) x → x ≢ o → First rs x
   skip r n = record { found = ⊎-elim (λ (h, e). absurd (n e)) (λ (h, f). f) (r .found) }
 
+  -- a line applies where none after it gives the number
+  pub told : First ((o when P) ∷ rs) x → (First rs x → ⊥) → P
+  told r n = ⊎-elim (λ (h, e). h) (λ (h, f). absurd (n (record { found = f }))) (r .found)
+
 pub last : {o x : ℕ} {P : Type 0} → First ((o when P) ∷ []) x → 0 < x → P
 last r l = ⊎-elim (λ (h, e). h) (λ (h, z). absurd (omega arith)) (r .found)
 
@@ -49,3 +53,22 @@ first-test o x P rs false f r = record { found = inr (iff-false false f refl, r 
 
 pub first-none : First [] 0
 first-none = record { found = refl }
+
+-- ---- where the call is accepted
+
+-- no line applies; and every line has a number, which is not 0
+abbrev pub NoneOf : List Refusal → Type 0
+NoneOf [] = Unit {0}
+NoneOf ((o when P) ∷ rs) = (P → ⊥) × NoneOf rs
+
+abbrev pub Numbered : List Refusal → Type 0
+Numbered [] = Unit {0}
+Numbered ((o when P) ∷ rs) = (0 < o) × Numbered rs
+
+pub accepted : (rs : List Refusal) (x : ℕ) → Numbered rs → First rs x → x ≡ 0 → NoneOf rs
+accepted [] x u r z = tt
+accepted ((o when P) ∷ rs) x (u, us) r z = (λ p. omega (arith, hit r p), accepted rs x us (skip r (λ e. omega arith)) z)
+
+pub accepts : (rs : List Refusal) (x : ℕ) → NoneOf rs → First rs x → x ≡ 0
+accepts [] x n r = missed r
+accepts ((o when P) ∷ rs) x (n, ns) r = accepts rs x ns (miss r n)

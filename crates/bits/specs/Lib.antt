@@ -1,3 +1,4 @@
 pub mod Bits
 pub mod Lowest
 pub mod First
+pub mod Ends

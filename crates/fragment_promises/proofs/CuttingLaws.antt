@@ -13,6 +13,7 @@ use Rattle.grid_promises.specs.Refusals.{InRange}
 use Rattle.grid_promises.specs.declared.ReadAnswer.{ReadAnswer}
 use Rattle.grid_promises.proofs.OneAnswer.{one-read}
 use Rattle.grid_promises.proofs.ByDemands.{store-exactly}
+use Rattle.grid_promises.proofs.RefusalLaws.{store-accepted}
 use Rattle.grid_promises.proofs.StoreDemands.{store-range, store-lengths, store-demands}
 use Rattle.fragment_promises.specs.Transfers.{counterBytes, size, wordBytes}
 use Rattle.fragment_promises.specs.Demands.{FinishDemands}
@@ -48,7 +49,7 @@ sent-block t u m n k es cells counters out a after c f r rows bytes words few e 
 
 pub store-then-send : StoreThenSend
 store-then-send t u b k es counters old cells out s a after d z few o c f e =
-    let none = d .lowest .none z in
+    let none = store-accepted b k counters (length old) (s .number) (d .first) z in
     let r : InRange (b .rows) (b .columns) k = store-range b k counters old none in
     let (rows, inside) = d .inside z in
     let words : Below (2 ^ 64) cells = λ i. lt-of-lt-of-le (inside i) (pow-le-pow-right (omega arith) (r .columns .1)) in

@@ -3,6 +3,7 @@ use Prim.Native.Nat.{ℕ, _+_, _<_, _≤_}
 use mathlib.Core.Path.{_≡_}
 use mathlib.Core.List.{List}
 use lib.ListN.{length}
+use Rattle.bits.specs.Ends.{One, Measured}
 use Rattle.rdis.specs.Cells.{reading}
 use Rattle.rdis.specs.Packing.{width, rowCounter, columnCounter}
 use Rattle.grid_promises.specs.Calls.{badIndex}
@@ -61,9 +62,7 @@ abbrev pub OneLump : Type 0
 OneLump = (t : Transfer) (bs : List ℕ) (s s′ : Step) → Lump t bs s → Lump t bs s′ → s ≡ s′
 
 abbrev pub OneFinish : Type 0
-OneFinish =
-    (m n k taken : ℕ) (bs out : List ℕ) (a a′ : ReadAnswer) (x x′ : List ℕ)
-    → FinishExactly m n k taken bs out a x → FinishExactly m n k taken bs out a′ x′ → (a ≡ a′) × (x ≡ x′)
+OneFinish = (m n k taken : ℕ) (bs out : List ℕ) → One (FinishExactly m n k taken bs out)
 
 -- ---- nor one that keeps the demands alone
 
@@ -74,14 +73,10 @@ abbrev pub OneLumpByDemands : Type 0
 OneLumpByDemands = (t : Transfer) (bs : List ℕ) (s s′ : Step) → LumpDemands t bs s → LumpDemands t bs s′ → s ≡ s′
 
 abbrev pub OneFinishByDemands : Type 0
-OneFinishByDemands =
-    (m n k taken : ℕ) (bs out : List ℕ) (a a′ : ReadAnswer) (x x′ : List ℕ)
-    → FinishDemands m n k taken bs out a x → FinishDemands m n k taken bs out a′ x′ → (a ≡ a′) × (x ≡ x′)
+OneFinishByDemands = (m n k taken : ℕ) (bs out : List ℕ) → One (FinishDemands m n k taken bs out)
 
 -- ---- what does not count
 
 -- of a finish's output only the length
 abbrev pub FinishMeasured : Type 0
-FinishMeasured =
-    (m n k taken : ℕ) (bs out out′ : List ℕ) (a a′ : ReadAnswer) (x x′ : List ℕ)
-    → length out ≡ length out′ → Finish m n k taken bs out a x → Finish m n k taken bs out′ a′ x′ → (a ≡ a′) × (a .number ≡ 0 → x ≡ x′)
+FinishMeasured = (m n k taken : ℕ) (bs : List ℕ) → Measured (λ a. a .number) (Finish m n k taken bs)

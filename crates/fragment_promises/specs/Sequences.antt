@@ -82,22 +82,21 @@ EveryLump =
     (t u : Transfer) (m n k : ℕ) (es : List Event) (bs : List ℕ) (s : Step) → Calls t (start m n k ∷ es) u → LumpDemands u bs s
     → let h = tell (story (begun m n k) es) (lump bs) in First ((1 when (Fine h → ⊥)) ∷ (9 when (whole h < length (h .sent))) ∷ []) (s .number)
 
+-- after a start and any calls every finish ends as P says of their story
+abbrev pub AfterCalls : (Story → List ℕ → ReadAnswer → List ℕ → Type 0) → Type 0
+AfterCalls P =
+    (t u : Transfer) (m n k : ℕ) (es : List Event) (out : List ℕ) (a : ReadAnswer) (after : List ℕ)
+    → Calls t (start m n k ∷ es) u → FinishesBy u out a after → P (story (begun m n k) es) out a after
+
 -- a finish: as if all that was sent were held
 abbrev pub EveryFinish : Type 0
-EveryFinish =
-    (t u : Transfer) (m n k : ℕ) (es : List Event) (out : List ℕ) (a : ReadAnswer) (after : List ℕ)
-    → Calls t (start m n k ∷ es) u → FinishesBy u out a after
-    → let h = story (begun m n k) es in FinishDemands (h .rows) (h .columns) (h .k) (length (h .sent)) (h .sent) out a after
+EveryFinish = AfterCalls (λ h out a after. FinishDemands (h .rows) (h .columns) (h .k) (length (h .sent)) (h .sent) out a after)
 
 -- ---- its cases. Each has good numbers, but for the last
 
 -- a whole block was sent: the ordinary read's own promise on its counters and cell words
 abbrev pub Whole : Type 0
-Whole =
-    (t u : Transfer) (m n k : ℕ) (es : List Event) (out : List ℕ) (a : ReadAnswer) (after : List ℕ)
-    → Calls t (start m n k ∷ es) u → FinishesBy u out a after
-    → let h = story (begun m n k) es in Fine h → Below 256 (h .sent) → length (h .sent) ≡ whole h
-    → Read (h .rows) (h .columns) (h .k) (cellsOf (h .rows) (h .columns) (h .k) (h .sent)) (countersOf (h .rows) (h .columns) (h .k) (h .sent)) out a after
+Whole = AfterCalls (λ h out a after. Fine h → Below 256 (h .sent) → length (h .sent) ≡ whole h → Read (h .rows) (h .columns) (h .k) (cellsOf (h .rows) (h .columns) (h .k) (h .sent)) (countersOf (h .rows) (h .columns) (h .k) (h .sent)) out a after)
 
 -- the same of counters and cells that were sent as bytes: they are read as if they were lent
 abbrev pub Sent : Type 0
@@ -124,29 +123,19 @@ pub record RefusedWith (x : ℕ) (out : List ℕ) (a : ReadAnswer) (after : List
 
 -- an output of another length: 2, while no more bytes were sent than the block has, ahead of all that is judged of them
 abbrev pub WrongOutput : Type 0
-WrongOutput =
-    (t u : Transfer) (m n k : ℕ) (es : List Event) (out : List ℕ) (a : ReadAnswer) (after : List ℕ)
-    → Calls t (start m n k ∷ es) u → FinishesBy u out a after
-    → let h = story (begun m n k) es in Fine h → length (h .sent) ≤ whole h → length out ≢ h .rows → RefusedWith 2 out a after
+WrongOutput = AfterCalls (λ h out a after. Fine h → length (h .sent) ≤ whole h → length out ≢ h .rows → RefusedWith 2 out a after)
 
 -- fewer bytes were sent, and the output has the right length: 8, whatever they are
 abbrev pub Short : Type 0
-Short =
-    (t u : Transfer) (m n k : ℕ) (es : List Event) (out : List ℕ) (a : ReadAnswer) (after : List ℕ)
-    → Calls t (start m n k ∷ es) u → FinishesBy u out a after
-    → let h = story (begun m n k) es in Fine h → length out ≡ h .rows → length (h .sent) < whole h → RefusedWith 8 out a after
+Short = AfterCalls (λ h out a after. Fine h → length out ≡ h .rows → length (h .sent) < whole h → RefusedWith 8 out a after)
 
 -- more bytes were sent: 9, whatever the output
 abbrev pub Long : Type 0
-Long =
-    (t u : Transfer) (m n k : ℕ) (es : List Event) (out : List ℕ) (a : ReadAnswer) (after : List ℕ)
-    → Calls t (start m n k ∷ es) u → FinishesBy u out a after → let h = story (begun m n k) es in Fine h → whole h < length (h .sent) → RefusedWith 9 out a after
+Long = AfterCalls (λ h out a after. Fine h → whole h < length (h .sent) → RefusedWith 9 out a after)
 
 -- bad numbers: 1, whatever was sent
 abbrev pub Bad : Type 0
-Bad =
-    (t u : Transfer) (m n k : ℕ) (es : List Event) (out : List ℕ) (a : ReadAnswer) (after : List ℕ)
-    → Calls t (start m n k ∷ es) u → FinishesBy u out a after → let h = story (begun m n k) es in (Fine h → ⊥) → RefusedWith 1 out a after
+Bad = AfterCalls (λ h out a after. (Fine h → ⊥) → RefusedWith 1 out a after)
 
 -- ---- 1 at the start, and 9 there and ever after
 

@@ -59,7 +59,13 @@ pub fn show(
 }
 
 // That of numbers in range and buffers that are as long as they should be.
-fn show_sized(columns: usize, k: usize, cells: &[u64], counters: &[u8], out: &mut [u64]) -> Shown
+pub fn show_sized(
+    columns: usize,
+    k: usize,
+    cells: &[u64],
+    counters: &[u8],
+    out: &mut [u64],
+) -> Shown
     requires { ⌜ ShowSized columns k (now cells) (now counters) (now out) ⌝ }
     ensures { λ r. ⌜ Shows (length (now (cells .entry))) columns k (now (cells .entry)) (now (counters .entry)) (now (out .entry)) r (now (out .exit)) ⌝ }
 {

@@ -20,7 +20,7 @@ use Rattle.grid_promises.proofs.IndexLaws.{names-none}
 use Rattle.grid_promises.proofs.OneAnswer.{either-way, same-counts, same-end}
 use Rattle.grid_promises.proofs.ByDemands.{store-exactly}
 use Rattle.grid_promises.proofs.SameReads.{Readable, no-above, none-above}
-use Rattle.grid_promises.proofs.ConvertLaws.{convert-range}
+use Rattle.grid_promises.proofs.ConvertLaws.{convert-accepted, convert-range}
 use Rattle.grid_promises.proofs.ConvertDemands.{same, before-readable, after-readable}
 use Rattle.grid_promises.proofs.OneConversion.{convert-exactly}
 
@@ -115,6 +115,6 @@ module _ (m n k k′ k″ : ℕ) (bs bs′ : List ℕ) (h : k ≤ k″) (h′ : 
 pub convert-twice : ConvertTwice
 convert-twice m n k k′ k″ counters mid after out a c c′ x x′ h d z e f =
     let E = convert-exactly m n k k′ counters mid a after d in
-    let larger = convert-range m n k k′ counters (length mid) (d .lowest .none z) .larger in
+    let larger = convert-range m n k k′ counters (length mid) (convert-accepted m n k k′ counters (length mid) (a .number) (d .first) z) .larger in
     same-converting m n k k′ k″ counters after (omega (arith, larger, h)) h (before-readable m n k k′ counters mid a after E z)
     (after-readable m n k k′ counters mid a after E z) (same m n k k′ counters mid a after E z) out c c′ x x′ e f

@@ -9,7 +9,7 @@ use lib.ListN.{length}
 use Rattle.bits.specs.Bits.{most}
 use Rattle.bits.proofs.TestLaws.{false-iff}
 use Rattle.bits.proofs.BoundLaws.{most-le, most-at}
-use Rattle.bits.proofs.LowestLaws.{lowest-one}
+use Rattle.bits.proofs.FirstLaws.{first-one}
 use Rattle.bits.proofs.ByteLaws.{is-words}
 use Rattle.rdis.specs.Block.{Block, bit, stuck}
 use Rattle.rdis.specs.Cells.{flips, holds, stored, reading}
@@ -19,13 +19,12 @@ use Rattle.rdis.proofs.LevelLaws.{levels-by-chain, one-depth}
 use Rattle.rdis.proofs.TakenLaws.{levels-counted, one-count}
 use Rattle.rdis.proofs.PackingLaws.{length-in-order, in-order-unpacked, plan-below, packed-only}
 use Rattle.rdis.proofs.CountLaws.{faults-are-cells}
-use Rattle.grid_promises.specs.Refusals.{ReadRefused, PlanRefused, StoreRefused}
 use Rattle.grid_promises.specs.Demands.{WellFormed, HeldLines, Greatest, ReadDemands, PlanDemands, StoreDemands}
 use Rattle.grid_promises.specs.Promises.{ReadExactly, PlanExactly, StoreExactly}
 use Rattle.grid_promises.specs.Theorems.{OneReadByDemands, OnePlanByDemands, OneStoreByDemands}
 use Rattle.grid_promises.specs.declared.ReadAnswer.{ReadAnswer}
 use Rattle.grid_promises.specs.declared.Answer.{Answer}
-use Rattle.grid_promises.proofs.RefusalLaws.{spare-iff, counter-held, held-is, read-lowest, plan-lowest, store-lowest}
+use Rattle.grid_promises.proofs.RefusalLaws.{spare-iff, counter-held, held-is, read-first, plan-first, plan-accepted, store-first, store-accepted}
 use Rattle.grid_promises.proofs.IndexLaws.{names-index}
 use Rattle.grid_promises.proofs.PlanDemands.{plan-mask, planned, plan-fits}
 use Rattle.grid_promises.proofs.StoreDemands.{store-range, store-mask}
@@ -37,7 +36,7 @@ pub read-exactly : (m n k : ℕ) (cells counters out : List ℕ) (a : ReadAnswer
     → ReadDemands m n k cells counters out a after → ReadExactly m n k cells counters out a after
 unfolding reading flips bit
 read-exactly m n k cells counters out a after d = record {
-  number = lowest-one (ReadRefused m n k cells counters (length out)) _ _ (d .lowest) (read-lowest m n k cells counters (length out));
+  number = first-one _ _ _ (d .first) (read-first m n k cells counters (length out));
   indexIs = names-index k (m + n) counters (a .number) (a .index) (d .names);
   untouched = d .untouched;
   shown = λ z. is-words m n _ after (d .inside z .0) (λ i p. d .inside z .1 i)
@@ -67,18 +66,18 @@ module _ (w m n : ℕ) (bs : List ℕ) (r c : ℕ → ℕ) (formed : WellFormed 
 
 pub plan-exactly : (b : Block) (k : ℕ) (counters : List ℕ) (a : Answer) (counters′ : List ℕ) → PlanDemands b k counters a counters′ → PlanExactly b k counters a counters′
 plan-exactly b k counters a counters′ d = record {
-  number = lowest-one (PlanRefused b k (length counters)) _ _ (d .lowest) (plan-lowest b k (length counters));
+  number = first-one _ _ _ (d .first) (plan-first b k (length counters));
   indexIs = d .namesNone;
   untouched = d .untouched;
   countersAre = λ z.
       let w = width k in
-      let masks = planned b k (length counters) (d .lowest .none z) in
-      let fits = plan-fits b k (length counters) (d .lowest .none z) in
+      let masks = planned b k (length counters) (plan-accepted b k (length counters) (a .number) (d .first) z) in
+      let fits = plan-fits b k (length counters) (plan-accepted b k (length counters) (a .number) (d .first) z) in
       let (x, y) = one-count b _ _ _ _ (levels-counted b k _ _ _ masks) (d .counted z _ _ (lines w (b .rows) (b .columns) counters′)) in
       packed-only w (b .rows + b .columns) _ counters′ (length-in-order (b .rows) (b .columns) _ _) (plan-below b k _ _ _ masks (2 ^ w) fits) .0
       (bytes-packed w (b .rows) (b .columns) counters′ _ _ (d .wellFormed z) x y);
-  levelsAre = λ z. one-depth b k _ _ (d .deepest z) (levels-by-chain b k _ _ _ (planned b k (length counters) (d .lowest .none z)));
-  faultsAre = λ z. d .everyFault z ∙ sym (faults-are-cells (b .rows) (b .columns) (b .mask) (plan-mask b k (length counters) (d .lowest .none z)));
+  levelsAre = λ z. one-depth b k _ _ (d .deepest z) (levels-by-chain b k _ _ _ (planned b k (length counters) (plan-accepted b k (length counters) (a .number) (d .first) z)));
+  faultsAre = λ z. d .everyFault z ∙ sym (faults-are-cells (b .rows) (b .columns) (b .mask) (plan-mask b k (length counters) (plan-accepted b k (length counters) (a .number) (d .first) z)));
   kindsAre = d .kinds;
 }
 
@@ -103,14 +102,14 @@ pub store-exactly : (b : Block) (k : ℕ) (counters cells : List ℕ) (a : Answe
     → StoreDemands b k counters cells a cells′ → StoreExactly b k counters cells a cells′
 unfolding stored holds flips bit
 store-exactly b k counters cells a cells′ d = record {
-  number = lowest-one (StoreRefused b k counters (length cells)) _ _ (d .lowest) (store-lowest b k counters (length cells));
+  number = first-one _ _ _ (d .first) (store-first b k counters (length cells));
   indexIs = names-index k (b .rows + b .columns) counters (a .number) (a .index) (d .names);
   untouched = d .untouched;
   cellsAre = λ z. is-words (b .rows) (b .columns) _ cells′ (d .inside z .0) (λ i p. d .inside z .1 i)
       (λ i j p q. cell-holds (stuck b i j) (bit (b .values) i j) _ (bit cells′ i j) (d .held z i j p q)
       (λ h. d .sound z i j _ _ p q h (counter-held (width k) i counters) (counter-held (width k) (b .rows + j) counters)));
-  levelsAre = λ z. greatest-is (width k) (b .rows + b .columns) counters (a .levels) (omega (arith, store-range b k counters cells (d .lowest .none z) .rows .0)) (d .deepest z);
-  faultsAre = λ z. d .everyFault z ∙ sym (faults-are-cells (b .rows) (b .columns) (b .mask) (store-mask b k counters cells (d .lowest .none z)));
+  levelsAre = λ z. greatest-is (width k) (b .rows + b .columns) counters (a .levels) (omega (arith, store-range b k counters cells (store-accepted b k counters (length cells) (a .number) (d .first) z) .rows .0)) (d .deepest z);
+  faultsAre = λ z. d .everyFault z ∙ sym (faults-are-cells (b .rows) (b .columns) (b .mask) (store-mask b k counters cells (store-accepted b k counters (length cells) (a .number) (d .first) z)));
   kindsAre = d .kinds;
 }
 

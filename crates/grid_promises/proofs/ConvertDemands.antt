@@ -6,32 +6,30 @@ use native.Mathlib.Omega.{arith}
 use borrow.Author.Tests.{not-false}
 use lib.ListN.{length}
 use Rattle.bits.specs.Bits.{Below}
-use Rattle.bits.specs.Lowest.{Lowest}
+use Rattle.bits.specs.First.{First}
+use Rattle.bits.proofs.FirstLaws.{NoneOf}
 use Rattle.bits.proofs.TestLaws.{false-iff}
 use Rattle.rdis.specs.Packing.{width, packed, unpacked, counter}
 use Rattle.rdis.proofs.PackingLaws.{pack-unpack}
 use Rattle.grid_promises.specs.Demands.{WellFormed}
 use Rattle.grid_promises.specs.Promises.{ReadExactly}
-use Rattle.grid_promises.specs.Conversion.{ConvertRefused, ConvertExactly, Convert}
+use Rattle.grid_promises.specs.Conversion.{convertRefusals, ConvertExactly, Convert}
 use Rattle.grid_promises.specs.declared.ReadAnswer.{ReadAnswer}
 use Rattle.grid_promises.specs.declared.ConvertAnswer.{ConvertAnswer}
 use Rattle.grid_promises.proofs.RefusalLaws.{spare-iff}
 use Rattle.grid_promises.proofs.IndexLaws.{index-names}
-use Rattle.grid_promises.proofs.ConvertLaws.{convert-4, convert-lowest, held-over}
+use Rattle.grid_promises.proofs.ConvertLaws.{convert-first, convert-4, convert-accepted, held-over}
 use Rattle.grid_promises.proofs.ConvertLaws.{convert-range, convert-lengths, convert-clear, convert-few, convert-formed, convert-same}
 use Rattle.grid_promises.proofs.SameReads.{Readable, same-reading}
 
 module _ (m n k k′ : ℕ) (counters out : List ℕ) (a : ConvertAnswer) (after : List ℕ) (e : ConvertExactly m n k k′ counters out a after) where
-  abbrev Refused : ℕ → Type 0
-  Refused = ConvertRefused m n k k′ counters (length out)
-
-  lowest-refusal : Lowest Refused (a .number)
-  lowest-refusal = subst (Lowest Refused) (sym (e .number)) (convert-lowest m n k k′ counters (length out))
+  found : First (convertRefusals m n k k′ counters (length out)) (a .number)
+  found = subst (First (convertRefusals m n k k′ counters (length out))) (sym (e .number)) (convert-first m n k k′ counters (length out))
 
   -- it is accepted
   module _ (z : a .number ≡ 0) where
-    none : (y : ℕ) → Refused y → ⊥
-    none = lowest-refusal .none z
+    none : NoneOf (convertRefusals m n k k′ counters (length out))
+    none = convert-accepted m n k k′ counters (length out) (a .number) found z
 
     formed : WellFormed (width k′) (m + n) after
     formed = subst (WellFormed (width k′) (m + n)) (sym (e .bytesAre z)) (convert-formed m n k k′ counters (length out) none)
@@ -69,9 +67,8 @@ module _ (m n k k′ : ℕ) (counters out : List ℕ) (a : ConvertAnswer) (after
   convert-demands bytes = record {
     exactly = e;
     demands = record {
-      lowest = lowest-refusal;
-      names = index-names k (m + n) counters (a .number) (a .index)
-          (λ z. convert-4 m n k k′ counters (length out) (subst Refused z (lowest-refusal .applies (omega arith)))) (e .indexIs);
+      first = found;
+      names = index-names k (m + n) counters (a .number) (a .index) (convert-4 m n k k′ counters (length out) (a .number) found) (e .indexIs);
       untouched = e .untouched;
       wellFormed = formed;
       kept = λ z t x l. held-over (width k) (width k′) t x counters after (same z t l);

@@ -2,16 +2,17 @@
 use Prim.Native.Nat.{ℕ, _+_, _^_, _<_, _≤_}
 use mathlib.Core.Path.{_≡_, refl, ap, subst, _∙_}
 use mathlib.Core.Bool.{true, not}
-use mathlib.Core.List.{List}
+use mathlib.Core.List.{List, []}
 use mathlib.Core.Logic.{_↔_, Iff·trans, ⊎-elim}
 use native.Mathlib.Omega.{arith}
 use borrow.Author.Tests.{not-false}
+use lib.Dec.{lit<}
 use lib.ListN.{length}
 use lib.Pow.{pow-pos}
 use Rattle.bits.specs.Bits.{Below}
-use Rattle.bits.specs.Lowest.{Lowest}
+use Rattle.bits.specs.First.{First}
 use Rattle.bits.proofs.TestLaws.{lt-or-le, leb-iff, false-iff, iff-false, iff-stable, not-iff, and-iff}
-use Rattle.bits.proofs.LowestLaws.{test-first, from-none, from-first}
+use Rattle.bits.proofs.FirstLaws.{skip, last, first-test, first-none, NoneOf, accepted}
 use Rattle.bits.proofs.ByteLaws.{below-all}
 use Rattle.rdis.specs.Packing.{width, packed, unpacked, counter, spareClear}
 use Rattle.rdis.specs.Theorems.{Packs}
@@ -19,7 +20,7 @@ use Rattle.rdis.proofs.PackingLaws.{width-holds, packed-only, length-unpacked, 
 use Rattle.grid_promises.specs.Refusals.{Spare, Held, Above}
 use Rattle.grid_promises.specs.Demands.{WellFormed}
 use Rattle.grid_promises.specs.Conversion.{convertInRange, convertSized, convertNumber, ConvertInRange, ConvertLengths}
-use Rattle.grid_promises.specs.Conversion.{ConvertRefused, rangeConvert, lengthConvert, spareConvert, aboveConvert}
+use Rattle.grid_promises.specs.Conversion.{convertRefusals}
 use Rattle.grid_promises.proofs.RefusalLaws.{in-range, counters-sized, spare-iff, above-iff, counter-held, held-is}
 
 -- ---- each test
@@ -39,54 +40,39 @@ convert-sized m n k k′ counters out =
 -- ---- the number
 
 module _ (m n k k′ : ℕ) (counters : List ℕ) (out : ℕ) where
-  convert-1 : ConvertRefused m n k k′ counters out 1 → ConvertInRange m n k k′ → ⊥
-  convert-1 (rangeConvert h) = h
-
-  convert-2 : ConvertRefused m n k k′ counters out 2 → ConvertLengths m n k k′ (length counters) out → ⊥
-  convert-2 (lengthConvert h) = h
-
-  convert-3 : ConvertRefused m n k k′ counters out 3 → Spare (width k) (m + n) counters
-  convert-3 (spareConvert h) = h
-
-  pub convert-4 : ConvertRefused m n k k′ counters out 4 → Above k (m + n) counters
-  convert-4 (aboveConvert h) = h
-
-  convert-some : (y : ℕ) → ConvertRefused m n k k′ counters out y → (1 ≤ y) × (y ≤ 4)
-  convert-some y (rangeConvert h) = (omega arith, omega arith)
-  convert-some y (lengthConvert h) = (omega arith, omega arith)
-  convert-some y (spareConvert h) = (omega arith, omega arith)
-  convert-some y (aboveConvert h) = (omega arith, omega arith)
-
-  pub convert-lowest : Lowest (ConvertRefused m n k k′ counters out) (convertNumber m n k k′ counters out)
+  pub convert-first : First (convertRefusals m n k k′ counters out) (convertNumber m n k k′ counters out)
   unfolding convertNumber
-  convert-lowest =
-      let P = ConvertRefused m n k k′ counters out in
-      from-first P _ (λ y p. convert-some y p .0)
-      (test-first P 1 _ _ (omega arith) (Iff·trans (not-iff _ (convert-in-range m n k k′)) (rangeConvert, convert-1)) (λ _.
-      test-first P 2 _ _ (omega arith) (Iff·trans (not-iff _ (convert-sized m n k k′ (length counters) out)) (lengthConvert, convert-2)) (λ _.
-      test-first P 3 _ _ (omega arith) (Iff·trans (spare-iff (width k) (m + n) counters) (spareConvert, convert-3)) (λ _.
-      test-first P 4 0 _ (omega arith) (Iff·trans (above-iff (m + n) k counters) (aboveConvert, convert-4)) (λ _.
-      from-none P 5 (λ y q p. omega (arith, convert-some y p)))))))
+  convert-first =
+      first-test 1 _ _ _ _ (not-iff _ (convert-in-range m n k k′)) (λ _.
+      first-test 2 _ _ _ _ (not-iff _ (convert-sized m n k k′ (length counters) out)) (λ _.
+      first-test 3 _ _ _ _ (spare-iff (width k) (m + n) counters) (λ _.
+      first-test 4 0 _ [] _ (above-iff (m + n) k counters) (λ _. first-none))))
+
+  pub convert-4 : (x : ℕ) → First (convertRefusals m n k k′ counters out) x → x ≡ 4 → Above k (m + n) counters
+  convert-4 x f z = last (skip (skip (skip f (λ e. omega arith)) (λ e. omega arith)) (λ e. omega arith)) (omega arith)
+
+  pub convert-accepted : (x : ℕ) → First (convertRefusals m n k k′ counters out) x → x ≡ 0 → NoneOf (convertRefusals m n k k′ counters out)
+  convert-accepted x f z = accepted _ x (lit< tt, (lit< tt, (lit< tt, (lit< tt, tt)))) f z
 
 -- ---- it is accepted
 
-module _ (m n k k′ : ℕ) (counters : List ℕ) (out : ℕ) (none : (y : ℕ) → ConvertRefused m n k k′ counters out y → ⊥) where
+module _ (m n k k′ : ℕ) (counters : List ℕ) (out : ℕ) (none : NoneOf (convertRefusals m n k k′ counters out)) where
   abbrev numbers : List ℕ
   numbers = unpacked (width k) (m + n) counters
 
   pub convert-range : ConvertInRange m n k k′
-  convert-range = iff-stable _ (convert-in-range m n k k′) (λ h. none 1 (rangeConvert h))
+  convert-range = iff-stable _ (convert-in-range m n k k′) (none .0)
 
   pub convert-lengths : ConvertLengths m n k k′ (length counters) out
-  convert-lengths = iff-stable _ (convert-sized m n k k′ (length counters) out) (λ h. none 2 (lengthConvert h))
+  convert-lengths = iff-stable _ (convert-sized m n k k′ (length counters) out) (none .1 .0)
 
   pub convert-clear : spareClear (width k) (m + n) counters ≡ true
-  convert-clear = not-false _ (false-iff _ (spare-iff (width k) (m + n) counters) (λ h. none 3 (spareConvert h)))
+  convert-clear = not-false _ (false-iff _ (spare-iff (width k) (m + n) counters) (none .1 .1 .0))
 
   -- no counter is above K, so the target's width holds them all
   pub convert-few : (t : ℕ) → t < m + n → counter (width k) counters t ≤ k
   convert-few t l =
-      ⊎-elim (λ h. absurd (none 4 (aboveConvert (t, l, (_, counter-held (width k) t counters, h))))) (λ h. h) (lt-or-le k (counter (width k) counters t))
+      ⊎-elim (λ h. absurd (none .1 .1 .1 .0 (t, l, (_, counter-held (width k) t counters, h)))) (λ h. h) (lt-or-le k (counter (width k) counters t))
 
   pub convert-fits : Below (2 ^ width k′) numbers
   convert-fits = below-all (m + n) (2 ^ width k′) numbers (pow-pos (width k′)) (length-unpacked (width k) (m + n) counters) (λ t l.

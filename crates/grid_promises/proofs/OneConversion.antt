@@ -7,20 +7,20 @@ use borrow.Author.Tests.{not-false}
 use lib.ListN.{length}
 use Rattle.bits.proofs.TestLaws.{false-iff}
 use Rattle.bits.proofs.BoundLaws.{list-ext}
-use Rattle.bits.proofs.LowestLaws.{lowest-one, lowest-is}
+use Rattle.bits.proofs.FirstLaws.{hit, first-one}
 use Rattle.rdis.specs.Packing.{width, unpacked, counter}
 use Rattle.rdis.specs.Theorems.{Packs}
 use Rattle.rdis.proofs.PackingLaws.{packed-only, length-unpacked}
 use Rattle.grid_promises.specs.Calls.{badIndex}
 use Rattle.grid_promises.specs.Demands.{WellFormed}
-use Rattle.grid_promises.specs.Conversion.{convertNumber, ConvertRefused, rangeConvert, lengthConvert, spareConvert, aboveConvert, ConvertDemands, ConvertExactly}
+use Rattle.grid_promises.specs.Conversion.{convertNumber, ConvertDemands, ConvertExactly}
 use Rattle.grid_promises.specs.Conversion.{OneConvert, OneConvertByDemands, SmallerRefused, OutputKeepsLength, ConvertMeasured, ReadsKept}
 use Rattle.grid_promises.specs.declared.ConvertAnswer.{ConvertAnswer}
 use Rattle.grid_promises.proofs.RefusalLaws.{spare-iff, counter-held, held-is}
 use Rattle.grid_promises.proofs.IndexLaws.{names-index}
 use Rattle.grid_promises.proofs.OneAnswer.{either-way}
 use Rattle.grid_promises.proofs.ByDemands.{read-exactly}
-use Rattle.grid_promises.proofs.ConvertLaws.{convert-lowest, convert-lengths, convert-fits}
+use Rattle.grid_promises.proofs.ConvertLaws.{convert-first, convert-accepted, convert-lengths, convert-fits}
 use Rattle.grid_promises.proofs.ConvertDemands.{reads-same}
 
 -- ---- the demands give the exact part
@@ -38,12 +38,12 @@ packs-same w w′ n bs bs′ formed same = record {
 pub convert-exactly : (m n k k′ : ℕ) (counters out : List ℕ) (a : ConvertAnswer) (after : List ℕ)
     → ConvertDemands m n k k′ counters out a after → ConvertExactly m n k k′ counters out a after
 convert-exactly m n k k′ counters out a after d = record {
-  number = lowest-one (ConvertRefused m n k k′ counters (length out)) _ _ (d .lowest) (convert-lowest m n k k′ counters (length out));
+  number = first-one _ _ _ (d .first) (convert-first m n k k′ counters (length out));
   indexIs = names-index k (m + n) counters (a .number) (a .index) (d .names);
   untouched = d .untouched;
   bytesAre = λ z.
       packed-only (width k′) (m + n) (unpacked (width k) (m + n) counters) after (length-unpacked (width k) (m + n) counters)
-      (convert-fits m n k k′ counters (length out) (d .lowest .none z)) .0
+      (convert-fits m n k k′ counters (length out) (convert-accepted m n k k′ counters (length out) (a .number) (d .first) z)) .0
       (packs-same (width k) (width k′) (m + n) counters after (d .wellFormed z)
       (λ t l. held-is (width k′) t (counter (width k) counters t) after (d .kept z t _ l (counter-held (width k) t counters))));
 }
@@ -72,19 +72,12 @@ one-convert-by-demands m n k k′ counters out a a′ x x′ d e =
 -- ---- a smaller target, and the output's length
 
 pub smaller-refused : SmallerRefused
-smaller-refused m n k k′ counters out a after h d =
-    lowest-is (ConvertRefused m n k k′ counters (length out)) (a .number) 1 (d .lowest) (rangeConvert (λ r. omega (arith, r .larger))) (λ x l p. omega (arith, refused-some x p))
-  where
-    refused-some : (x : ℕ) → ConvertRefused m n k k′ counters (length out) x → 1 ≤ x
-    refused-some x (rangeConvert h) = omega arith
-    refused-some x (lengthConvert h) = omega arith
-    refused-some x (spareConvert h) = omega arith
-    refused-some x (aboveConvert h) = omega arith
+smaller-refused m n k k′ counters out a after h d = hit (d .first) (λ r. omega (arith, r .larger))
 
 pub output-keeps-length : OutputKeepsLength
 output-keeps-length m n k k′ counters out a after d =
     either-way (a .number) (λ l. ap length (d .untouched l))
-    (λ z. d .wellFormed z .size ∙ sym (convert-lengths m n k k′ counters (length out) (d .lowest .none z) .outBytes))
+    (λ z. d .wellFormed z .size ∙ sym (convert-lengths m n k k′ counters (length out) (convert-accepted m n k k′ counters (length out) (a .number) (d .first) z) .outBytes))
 
 -- ---- readings
 

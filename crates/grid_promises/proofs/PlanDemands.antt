@@ -7,9 +7,9 @@ use mathlib.Core.Logic.{_↔_, inl, inr}
 use native.Mathlib.Omega.{arith}
 use lib.ListN.{length}
 use Rattle.bits.specs.Bits.{most, Below}
-use Rattle.bits.specs.Lowest.{Lowest}
+use Rattle.bits.specs.First.{First}
 use Rattle.bits.proofs.TestLaws.{iff-false, false-iff, iff-stable}
-use Rattle.bits.proofs.LowestLaws.{lowest-is}
+use Rattle.bits.proofs.FirstLaws.{hit, miss, last, NoneOf}
 use Rattle.rdis.specs.Block.{Block}
 use Rattle.rdis.specs.Levels.{Outcome, masked, unmaskable, plan}
 use Rattle.rdis.specs.Chains.{HasChain}
@@ -23,13 +23,13 @@ use Rattle.rdis.proofs.PackingLaws.{width-holds, counters-back, plan-packs}
 use Rattle.rdis.proofs.CountLaws.{faults-are-cells}
 use Rattle.rdis.proofs.FaultLaws.{levels-by-kind}
 use Rattle.grid_promises.specs.Calls.{used, rowsOf, columnsOf}
-use Rattle.grid_promises.specs.Refusals.{InRange, PlanLengths}
-use Rattle.grid_promises.specs.Refusals.{PlanRefused, rangePlan, lengthPlan, pastPlan, chainPlan}
+use Rattle.grid_promises.specs.Refusals.{InRange, PlanLengths, PastBlock}
+use Rattle.grid_promises.specs.Refusals.{planRefusals}
 use Rattle.grid_promises.specs.Demands.{BoundsLevels, WellFormed, HeldLines}
 use Rattle.grid_promises.specs.Promises.{PlanExactly, Plan}
 use Rattle.grid_promises.specs.Theorems.{BoundFollows}
 use Rattle.grid_promises.specs.declared.Answer.{Answer}
-use Rattle.grid_promises.proofs.RefusalLaws.{in-range, plan-sized, within, past-iff, spare-iff, held-is, plan-7, plan-lowest}
+use Rattle.grid_promises.proofs.RefusalLaws.{in-range, plan-sized, within, past-iff, spare-iff, held-is, plan-first, plan-accepted}
 
 pub bound-follows : BoundFollows
 bound-follows b a c l = omega (arith, c .sum, l .wrong, l .right)
@@ -40,39 +40,33 @@ is-masked (masked l r c) h = refl
 is-masked unmaskable h = absurd (h refl)
 
 -- where no refusal applies, the block is as it should be and the levels mask its faults
-module _ (b : Block) (k counters : ℕ) (none : (y : ℕ) → PlanRefused b k counters y → ⊥) where
+module _ (b : Block) (k counters : ℕ) (none : NoneOf (planRefusals b k counters)) where
   pub plan-range : InRange (b .rows) (b .columns) k
-  plan-range = iff-stable _ (in-range (b .rows) (b .columns) k) (λ h. none 1 (rangePlan h))
+  plan-range = iff-stable _ (in-range (b .rows) (b .columns) k) (none .0)
 
   pub plan-lengths : PlanLengths b k counters
-  plan-lengths = iff-stable _ (plan-sized b k counters) (λ h. none 2 (lengthPlan h))
+  plan-lengths = iff-stable _ (plan-sized b k counters) (none .1 .0)
 
   pub plan-mask : Below (2 ^ b .columns) (b .mask)
-  plan-mask = within (b .columns) (b .mask) .0 (false-iff _ (past-iff (b .columns) (b .mask)) (λ p. none 3 (pastPlan (inr (inl p)))))
+  plan-mask = within (b .columns) (b .mask) .0 (false-iff _ (past-iff (b .columns) (b .mask)) (λ p. none .1 .1 .0 (inr (inl p))))
 
   pub planned : Masked b k (used (plan b k)) (rowsOf (plan b k)) (columnsOf (plan b k))
-  planned = is-masked (plan b k) (λ p. none 7 (chainPlan (refused-by-chain b k .0 p)))
+  planned = is-masked (plan b k) (λ p. none .1 .1 .1 .0 (refused-by-chain b k .0 p))
 
   pub plan-fits : k < 2 ^ width k
   plan-fits = width-holds k (plan-range .levels .1)
 
 module _ (b : Block) (k : ℕ) (counters : List ℕ) (a : Answer) (counters′ : List ℕ) (e : PlanExactly b k counters a counters′) where
-  abbrev Refused : ℕ → Type 0
-  Refused = PlanRefused b k (length counters)
+  found : First (planRefusals b k (length counters)) (a .number)
+  found = subst (First _) (sym (e .number)) (plan-first b k (length counters))
 
-  lowest-refusal : Lowest Refused (a .number)
-  lowest-refusal = subst (Lowest Refused) (sym (e .number)) (plan-lowest b k (length counters))
-
-  seven : ((x : ℕ) → x < 7 → Refused x → ⊥) → (a .number ≡ 7) ↔ HasChain b (2 * k + 1)
-  seven h = (
-    λ q. plan-7 b k (length counters) (a .number) (omega arith) (lowest-refusal .applies (omega arith)) .1,
-    λ c. lowest-is Refused (a .number) 7 lowest-refusal (chainPlan c) h,
-  )
+  seven : InRange (b .rows) (b .columns) k → PlanLengths b k (length counters) → (PastBlock b → ⊥) → (a .number ≡ 7) ↔ HasChain b (2 * k + 1)
+  seven r l h = let rest = miss (miss (miss found (λ n. n r)) (λ n. n l)) h in (λ q. last rest (omega arith), hit rest)
 
   -- it is accepted
   module _ (z : a .number ≡ 0) where
-    none : (y : ℕ) → Refused y → ⊥
-    none = lowest-refusal .none z
+    none : NoneOf (planRefusals b k (length counters))
+    none = plan-accepted b k (length counters) (a .number) found z
 
     masks : Masked b k (used (plan b k)) (rowsOf (plan b k)) (columnsOf (plan b k))
     masks = planned b k (length counters) none
@@ -106,7 +100,7 @@ module _ (b : Block) (k : ℕ) (counters : List ℕ) (a : Answer) (counters′ :
   plan-demands = record {
     exactly = e;
     demands = record {
-      lowest = lowest-refusal;
+      first = found;
       namesNone = e .indexIs;
       untouched = e .untouched;
       unmaskable = seven;

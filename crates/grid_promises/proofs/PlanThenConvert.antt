@@ -4,7 +4,7 @@ use mathlib.Core.Path.{_≡_, refl, sym, ap, subst, _∙_}
 use mathlib.Core.List.{List}
 use native.Mathlib.Omega.{arith}
 use lib.ListN.{length}
-use Rattle.bits.proofs.LowestLaws.{lowest-none}
+use Rattle.bits.proofs.FirstLaws.{NoneOf, accepts}
 use Rattle.rdis.specs.Block.{Block}
 use Rattle.rdis.specs.Levels.{Outcome, masked, unmaskable, plan}
 use Rattle.rdis.specs.Packing.{width, bytesFor, inOrder, packed, unpacked, counter}
@@ -12,11 +12,11 @@ use Rattle.rdis.specs.Theorems.{Masked}
 use Rattle.rdis.proofs.LevelLaws.{refused-by-chain, more-allowed}
 use Rattle.rdis.proofs.PackingLaws.{length-in-order, plan-below, plan-counter, unpack-pack}
 use Rattle.grid_promises.specs.Calls.{used, rowsOf, columnsOf}
-use Rattle.grid_promises.specs.Refusals.{InRange, PlanRefused, rangePlan, lengthPlan, pastPlan, chainPlan}
+use Rattle.grid_promises.specs.Refusals.{InRange, planRefusals}
 use Rattle.grid_promises.specs.Demands.{PlanDemands}
-use Rattle.grid_promises.specs.Conversion.{ConvertRefused, rangeConvert, lengthConvert, spareConvert, aboveConvert, PlanThenConvert}
+use Rattle.grid_promises.specs.Conversion.{convertRefusals, PlanThenConvert}
 use Rattle.grid_promises.specs.declared.Answer.{Answer}
-use Rattle.grid_promises.proofs.RefusalLaws.{held-is}
+use Rattle.grid_promises.proofs.RefusalLaws.{held-is, plan-accepted}
 use Rattle.grid_promises.proofs.PlanDemands.{plan-range, plan-lengths, planned, plan-fits}
 use Rattle.grid_promises.proofs.OneAnswer.{same-answer, same-counts}
 use Rattle.grid_promises.proofs.ByDemands.{plan-exactly}
@@ -26,8 +26,8 @@ masks-or-not : (o : Outcome) (l : ℕ) (r c : ℕ → ℕ) → o ≡ masked l r 
 masks-or-not o l r c p q = let z : _≡_ {A = ℕ} 0 1 = cc in omega arith
 
 module _ (b : Block) (k k′ : ℕ) (old counters : List ℕ) (p : Answer) (h : k ≤ k′) (h′ : k′ ≤ 7) (d : PlanDemands b k old p counters) (z : p .number ≡ 0) where
-  none : (y : ℕ) → PlanRefused b k (length old) y → ⊥
-  none = d .lowest .none z
+  none : NoneOf (planRefusals b k (length old))
+  none = plan-accepted b k (length old) (p .number) (d .first) z
 
   masks : Masked b k (used (plan b k)) (rowsOf (plan b k)) (columnsOf (plan b k))
   masks = planned b k (length old) none
@@ -49,24 +49,34 @@ module _ (b : Block) (k k′ : ℕ) (old counters : List ℕ) (p : Answer) (h : 
   range′ = record { rows = range .rows; columns = range .columns; levels = (omega (arith, range .levels .0), h′) }
 
   -- no refusal of the conversion applies, and none of the plan at the target
-  convert-none : (out : ℕ) → out ≡ bytesFor (width k′) (b .rows + b .columns) → (y : ℕ) → ConvertRefused (b .rows) (b .columns) k k′ counters out y → ⊥
-  convert-none out l y (rangeConvert f) = f (record { before = range; after = range′; larger = h })
-  convert-none out l y (lengthConvert f) = f (record { counterBytes = d .wellFormed z .size; outBytes = l })
-  convert-none out l y (spareConvert f) = d .wellFormed z .clear f
-  convert-none out l y (aboveConvert (t, q, (x, held, f))) =
-      omega (
-        arith,
-        held-is (width k) t x counters held,
-        subst (λ bs. counter (width k) bs t ≤ k) (sym packs) (plan-counter b k _ _ _ masks (width k) t (plan-fits b k (length old) none) q),
-      )
+  convert-none : (out : ℕ) → out ≡ bytesFor (width k′) (b .rows + b .columns) → NoneOf (convertRefusals (b .rows) (b .columns) k k′ counters out)
+  convert-none out l = (
+    λ f. f (record { before = range; after = range′; larger = h }),
+    (
+      λ f. f (record { counterBytes = d .wellFormed z .size; outBytes = l }),
+      (
+        d .wellFormed z .clear,
+        (
+          λ (t, q, (x, held, f)). omega (
+            arith,
+            held-is (width k) t x counters held,
+            subst (λ bs. counter (width k) bs t ≤ k) (sym packs) (plan-counter b k _ _ _ masks (width k) t (plan-fits b k (length old) none) q),
+          ),
+          tt,
+        ),
+      ),
+    ),
+  )
 
-  plan-none : (counters : ℕ) → counters ≡ bytesFor (width k′) (b .rows + b .columns) → (y : ℕ) → PlanRefused b k′ counters y → ⊥
-  plan-none counters l y (rangePlan f) = f range′
-  plan-none counters l y (lengthPlan f) =
-      let m = plan-lengths b k (length old) none in
-      f (record { dataWords = m .dataWords; maskWords = m .maskWords; valueWords = m .valueWords; counterBytes = l })
-  plan-none counters l y (pastPlan f) = none 3 (pastPlan f)
-  plan-none counters l y (chainPlan f) = masks-or-not (plan b k′) _ _ _ (same-plan ∙ masks) (refused-by-chain b k′ .1 f)
+  plan-none : (counters : ℕ) → counters ≡ bytesFor (width k′) (b .rows + b .columns) → NoneOf (planRefusals b k′ counters)
+  plan-none counters l =
+      let m = plan-lengths b k (length old) none in (
+        λ f. f range′,
+        (
+          λ f. f (record { dataWords = m .dataWords; maskWords = m .maskWords; valueWords = m .valueWords; counterBytes = l }),
+          (none .1 .1 .0, (λ f. masks-or-not (plan b k′) _ _ _ (same-plan ∙ masks) (refused-by-chain b k′ .1 f), tt)),
+        ),
+      )
 
   unpacks : unpacked (width k) (b .rows + b .columns) counters ≡ numbers
   unpacks =
@@ -76,15 +86,15 @@ module _ (b : Block) (k k′ : ℕ) (old counters : List ℕ) (p : Answer) (h : 
 
 pub plan-then-convert : PlanThenConvert
 plan-then-convert b k k′ old counters old′ counters′ out after p p′ a h h′ l l′ d z d′ e =
-    let accepts = lowest-none _ _ (e .lowest) (convert-none b k k′ old counters p h h′ d z (length out) l′) in
-    let plans = lowest-none _ _ (d′ .lowest) (plan-none b k k′ old counters p h h′ d z (length old′) l) in
+    let taken = accepts _ _ (convert-none b k k′ old counters p h h′ d z (length out) l′) (e .first) in
+    let plans = accepts _ _ (plan-none b k k′ old counters p h h′ d z (length old′) l) (d′ .first) in
     let same = same-plan b k k′ old counters p h h′ d z in
     let E = plan-exactly b k old p counters d in
     let E′ = plan-exactly b k′ old′ p′ counters′ d′ in
     let levels = E′ .levelsAre plans ∙ ap used same ∙ sym (E .levelsAre z) in (
-      accepts,
+      taken,
       same-answer p′ p (plans ∙ sym z) (d′ .namesNone ∙ sym (d .namesNone))
           (same-counts b b p′ p (λ w. refl) levels (d′ .everyFault plans ∙ sym (d .everyFault z)) (d′ .kinds plans) (d .kinds z)),
-      convert-exactly (b .rows) (b .columns) k k′ counters out a after e .bytesAre accepts ∙ ap (packed (width k′)) (unpacks b k k′ old counters p h h′ d z)
+      convert-exactly (b .rows) (b .columns) k k′ counters out a after e .bytesAre taken ∙ ap (packed (width k′)) (unpacks b k k′ old counters p h h′ d z)
           ∙ ap (λ o. packed (width k′) (inOrder (b .rows) (b .columns) (rowsOf o) (columnsOf o))) (sym same) ∙ sym (E′ .countersAre plans),
     )

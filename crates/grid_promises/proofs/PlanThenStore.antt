@@ -9,7 +9,7 @@ use lib.ListN.{length}
 use Rattle.bits.specs.Bits.{most}
 use Rattle.bits.proofs.TestLaws.{iff-false, lt-or-le}
 use Rattle.bits.proofs.BoundLaws.{most-le, most-at}
-use Rattle.bits.proofs.LowestLaws.{lowest-none}
+use Rattle.bits.proofs.FirstLaws.{NoneOf, accepts as none-accepts}
 use Rattle.rdis.specs.Block.{Block}
 use Rattle.rdis.specs.Levels.{plan}
 use Rattle.rdis.specs.Cells.{misreads}
@@ -20,11 +20,11 @@ use Rattle.rdis.proofs.CounterLaws.{counters-at-most, levels-reached}
 use Rattle.rdis.proofs.PackingLaws.{counter-packed, length-in-order, in-order-below, counters-back, plan-counter}
 use Rattle.rdis.proofs.LevelLaws.{levels-by-chain}
 use Rattle.grid_promises.specs.Calls.{used, rowsOf, columnsOf}
-use Rattle.grid_promises.specs.Refusals.{StoreRefused, rangeStore, lengthStore, pastStore, spareStore, aboveStore, misreadStore, rangePlan, pastPlan}
+use Rattle.grid_promises.specs.Refusals.{planRefusals, storeRefusals}
 use Rattle.grid_promises.specs.Demands.{PlanDemands, StoreDemands}
 use Rattle.grid_promises.specs.Theorems.{PlanKept, PlanThenStore}
 use Rattle.grid_promises.specs.declared.Answer.{Answer}
-use Rattle.grid_promises.proofs.RefusalLaws.{held-is, misread-iff}
+use Rattle.grid_promises.proofs.RefusalLaws.{held-is, misread-iff, plan-accepted}
 use Rattle.grid_promises.proofs.PlanDemands.{plan-range, plan-lengths, planned, plan-fits}
 use Rattle.grid_promises.proofs.StoreDemands.{store-demands}
 use Rattle.grid_promises.proofs.OneAnswer.{same-answer, same-counts}
@@ -68,11 +68,14 @@ module _ (b : Block) (k l : ℕ) (r c : ℕ → ℕ) (w : ℕ) (masks : Masked b
 
 module _ (b : Block) (k : ℕ) (old counters cells cells′ : List ℕ) (p s : Answer) (d : PlanDemands b k old p counters) (z : p .number ≡ 0) (l : length cells ≡ b .rows)
     (e : StoreDemands b k counters cells s cells′) where
+  free : NoneOf (planRefusals b k (length old))
+  free = plan-accepted b k (length old) (p .number) (d .first) z
+
   masks : Masked b k (used (plan b k)) (rowsOf (plan b k)) (columnsOf (plan b k))
-  masks = planned b k (length old) (d .lowest .none z)
+  masks = planned b k (length old) free
 
   fits : k < 2 ^ width k
-  fits = plan-fits b k (length old) (d .lowest .none z)
+  fits = plan-fits b k (length old) free
 
   packs : counters ≡ packed (width k) (inOrder (b .rows) (b .columns) (rowsOf (plan b k)) (columnsOf (plan b k)))
   packs = plan-exactly b k old p counters d .countersAre z
@@ -81,25 +84,30 @@ module _ (b : Block) (k : ℕ) (old counters cells cells′ : List ℕ) (p s : A
   reads-right = rw packs (none-wrong b k _ _ _ (width k) masks fits)
 
   -- no refusal of the store applies
-  store-none : (y : ℕ) → StoreRefused b k counters (length cells) y → ⊥
-  store-none y (rangeStore h) = d .lowest .none z 1 (rangePlan h)
-  store-none y (lengthStore h) =
-      let m = plan-lengths b k (length old) (d .lowest .none z) in
-      h (record { planned = record { dataWords = m .dataWords; maskWords = m .maskWords; valueWords = m .valueWords; counterBytes = d .wellFormed z .size }; cellWords = l })
-  store-none y (pastStore h) = d .lowest .none z 3 (pastPlan h)
-  store-none y (spareStore h) = d .wellFormed z .clear h
-  store-none y (aboveStore (t, q, (x, held, h))) =
-      omega (arith, held-is (width k) t x counters held, subst (λ bs. counter (width k) bs t ≤ k) (sym packs) (plan-counter b k _ _ _ masks (width k) t fits q))
-  store-none y (misreadStore m) = iff-false _ (misread-iff b k counters) reads-right m
+  store-none : NoneOf (storeRefusals b k counters (length cells))
+  store-none =
+      let m = plan-lengths b k (length old) free in (
+        free .0,
+        (
+          λ h. h (record { planned = record { dataWords = m .dataWords; maskWords = m .maskWords; valueWords = m .valueWords; counterBytes = d .wellFormed z .size }; cellWords = l }),
+          (
+            ⊎-elim (free .1 .1 .0) (d .wellFormed z .clear),
+            (
+              λ (t, q, (x, held, h)). omega (arith, held-is (width k) t x counters held, subst (λ bs. counter (width k) bs t ≤ k) (sym packs) (plan-counter b k _ _ _ masks (width k) t fits q)),
+              (iff-false _ (misread-iff b k counters) reads-right, tt),
+            ),
+          ),
+        ),
+      )
 
   accepts : s .number ≡ 0
-  accepts = lowest-none _ _ (e .lowest) store-none
+  accepts = none-accepts _ _ store-none (e .first)
 
   same-levels : s .levels ≡ p .levels
   same-levels =
       store-exactly b k counters cells s cells′ e .levelsAre accepts
       ∙ ap (λ bs. most (b .rows + b .columns) (counter (width k) bs)) packs
-      ∙ reached b k _ _ _ (width k) masks fits (omega (arith, plan-range b k (length old) (d .lowest .none z) .rows .0))
+      ∙ reached b k _ _ _ (width k) masks fits (omega (arith, plan-range b k (length old) free .rows .0))
       ∙ sym (plan-exactly b k old p counters d .levelsAre z)
 
   kept : PlanKept b k counters p s cells′

@@ -2,35 +2,30 @@
 use Prim.Native.Nat.{ℕ, _+_}
 use mathlib.Core.Path.{_≡_, sym, ap, ap₂, subst, _∙_}
 use mathlib.Core.List.{List}
-use native.Mathlib.Omega.{arith}
 use lib.ListN.{length}
-use Rattle.bits.specs.Lowest.{Lowest}
+use Rattle.bits.specs.First.{First}
 use Rattle.bits.proofs.ByteLaws.{length-words, words-below, has-words}
 use Rattle.rdis.specs.Block.{Sized, bit}
 use Rattle.rdis.specs.Cells.{flips, reading}
 use Rattle.rdis.specs.Packing.{width}
 use Rattle.grid_promises.specs.Refusals.{inverted}
-use Rattle.grid_promises.specs.Refusals.{ReadRefused}
+use Rattle.grid_promises.specs.Refusals.{readRefusals}
 use Rattle.grid_promises.specs.Promises.{ReadExactly, Read}
 use Rattle.grid_promises.specs.declared.ReadAnswer.{ReadAnswer}
-use Rattle.grid_promises.proofs.RefusalLaws.{held-is, read-4, read-lowest}
+use Rattle.grid_promises.proofs.RefusalLaws.{held-is, read-4, read-first}
 use Rattle.grid_promises.proofs.IndexLaws.{index-names}
 
 module _ (m n k : ℕ) (cells counters out : List ℕ) (a : ReadAnswer) (after : List ℕ) (e : ReadExactly m n k cells counters out a after) where
-  abbrev Refused : ℕ → Type 0
-  Refused = ReadRefused m n k cells counters (length out)
-
-  lowest-refusal : Lowest Refused (a .number)
-  lowest-refusal = subst (Lowest Refused) (sym (e .number)) (read-lowest m n k cells counters (length out))
+  found : First (readRefusals m n k cells counters (length out)) (a .number)
+  found = subst (First _) (sym (e .number)) (read-first m n k cells counters (length out))
 
   pub read-demands : Read m n k cells counters out a after
   unfolding reading bit flips
   read-demands = record {
     exactly = e;
     demands = record {
-      lowest = lowest-refusal;
-      names = index-names k (m + n) counters (a .number) (a .index)
-          (λ z. read-4 m n k cells counters (length out) (subst Refused z (lowest-refusal .applies (omega arith)))) (e .indexIs);
+      first = found;
+      names = index-names k (m + n) counters (a .number) (a .index) (read-4 m n k cells counters (length out) (a .number) found) (e .indexIs);
       untouched = e .untouched;
       inside = λ z. subst (Sized m n) (sym (e .shown z)) (length-words m n _, words-below m n _);
       shows = λ z i j x y p q u v.

@@ -2,18 +2,18 @@
 use Prim.Native.Nat.{ℕ, _+_, _*_, _/_, _^_, _≤_}
 use mathlib.Core.Path.{_≡_, refl, sym, ap, subst, _∙_}
 use mathlib.Core.Bool.{Bool, true, false, not, xor}
-use mathlib.Core.List.{List}
+use mathlib.Core.List.{List, [], _∷_}
 use mathlib.Core.Logic.{_↔_, _⊎_, _≢_, inl, inr, Iff·trans, ⊎-elim}
 use native.Mathlib.Nat.{mod-lt}
 use native.Mathlib.Omega.{arith}
 use borrow.Author.Tests.{leb-false, lt-leb}
-use lib.Dec.{leb}
+use lib.Dec.{leb, lit<}
 use lib.ListN.{length, getD}
 use lib.Pow.{pow-pos}
 use Rattle.bits.specs.Bits.{has, number, Below}
-use Rattle.bits.specs.Lowest.{Lowest}
+use Rattle.bits.specs.First.{Refusal, _when_, First}
 use Rattle.bits.proofs.TestLaws.{clash, true-or-false, xor-none, lt-or-le, leb-iff, ltb-iff, eqb-iff, not-iff, and-iff, or-iff}
-use Rattle.bits.proofs.LowestLaws.{From, test-first, from-none, from-first}
+use Rattle.bits.proofs.FirstLaws.{skip, told, last, missed, first-test, first-none, NoneOf, accepted}
 use Rattle.bits.proofs.BoundLaws.{none-below, some-none, some-iff}
 use Rattle.bits.proofs.BitLaws.{has-zero, has-ext, has-low, has-shr, high-bit}
 use Rattle.bits.proofs.ByteLaws.{past-end, below-all}
@@ -25,8 +25,7 @@ use Rattle.rdis.specs.Packing.{width, bytesFor, counter, rowCounter, columnCoun
 use Rattle.rdis.proofs.LevelLaws.{refused-by-chain}
 use Rattle.grid_promises.specs.Calls.{between, inRange, countersSized, past, readSized, readPast, readNumber, rowsSized, planSized, planPast, refusal, planNumber, storeSized, storePast, storeNumber}
 use Rattle.grid_promises.specs.Refusals.{InRange, ReadLengths, PlanLengths, StoreLengths, Past, Spare, Held, Above, inverted, PastBlock, Misread}
-use Rattle.grid_promises.specs.Refusals.{ReadRefused, rangeRead, lengthRead, pastRead, spareRead, aboveRead, PlanRefused, rangePlan, lengthPlan, pastPlan, chainPlan}
-use Rattle.grid_promises.specs.Refusals.{StoreRefused, rangeStore, lengthStore, pastStore, spareStore, aboveStore, misreadStore}
+use Rattle.grid_promises.specs.Refusals.{readRefusals, planRefusals, storeRefusals}
 
 -- ---- each test
 
@@ -154,132 +153,59 @@ misread-iff b k counters =
 -- ---- a read
 
 module _ (m n k : ℕ) (cells counters : List ℕ) (out : ℕ) where
-  read-1 : ReadRefused m n k cells counters out 1 → InRange m n k → ⊥
-  read-1 (rangeRead h) = h
+  abbrev pub reads : List Refusal
+  reads = readRefusals m n k cells counters out
 
-  read-2 : ReadRefused m n k cells counters out 2 → ReadLengths m n k (length cells) (length counters) out → ⊥
-  read-2 (lengthRead h) = h
-
-  read-3 : ReadRefused m n k cells counters out 3 → Past n cells ⊎ Spare (width k) (m + n) counters
-  read-3 (pastRead h) = inl h
-  read-3 (spareRead h) = inr h
-
-  pub read-4 : ReadRefused m n k cells counters out 4 → Above k (m + n) counters
-  read-4 (aboveRead h) = h
-
-  read-some : (y : ℕ) → ReadRefused m n k cells counters out y → (1 ≤ y) × (y ≤ 4)
-  read-some y (rangeRead h) = (omega arith, omega arith)
-  read-some y (lengthRead h) = (omega arith, omega arith)
-  read-some y (pastRead h) = (omega arith, omega arith)
-  read-some y (spareRead h) = (omega arith, omega arith)
-  read-some y (aboveRead h) = (omega arith, omega arith)
-
-  pub read-lowest : Lowest (ReadRefused m n k cells counters out) (readNumber m n k cells counters out)
+  pub read-first : First reads (readNumber m n k cells counters out)
   unfolding readNumber
-  read-lowest =
-      let P = ReadRefused m n k cells counters out in
-      from-first P _ (λ y p. read-some y p .0)
-      (test-first P 1 _ _ (omega arith) (Iff·trans (not-iff _ (in-range m n k)) (rangeRead, read-1)) (λ _.
-      test-first P 2 _ _ (omega arith) (Iff·trans (not-iff _ (read-sized m n k (length cells) (length counters) out)) (lengthRead, read-2)) (λ _.
-      test-first P 3 _ _ (omega arith) (Iff·trans (read-past-iff m n k cells counters) (⊎-elim pastRead spareRead, read-3)) (λ _.
-      test-first P 4 0 _ (omega arith) (Iff·trans (above-iff (m + n) k counters) (aboveRead, read-4)) (λ _.
-      from-none P 5 (λ y q p. omega (arith, read-some y p)))))))
+  read-first =
+      first-test 1 _ _ _ _ (not-iff _ (in-range m n k)) (λ _.
+      first-test 2 _ _ _ _ (not-iff _ (read-sized m n k (length cells) (length counters) out)) (λ _.
+      first-test 3 _ _ _ _ (read-past-iff m n k cells counters) (λ _.
+      first-test 4 0 _ [] _ (above-iff (m + n) k counters) (λ _. first-none))))
+
+  pub read-4 : (x : ℕ) → First reads x → x ≡ 4 → Above k (m + n) counters
+  read-4 x f z = last (skip (skip (skip f (λ e. omega arith)) (λ e. omega arith)) (λ e. omega arith)) (omega arith)
 
 -- ---- a plan
 
 module _ (b : Block) (k counters : ℕ) where
-  plan-1 : PlanRefused b k counters 1 → InRange (b .rows) (b .columns) k → ⊥
-  plan-1 (rangePlan h) = h
-
-  plan-2 : PlanRefused b k counters 2 → PlanLengths b k counters → ⊥
-  plan-2 (lengthPlan h) = h
-
-  plan-3 : PlanRefused b k counters 3 → PastBlock b
-  plan-3 (pastPlan h) = h
-
-  plan-some : (y : ℕ) → PlanRefused b k counters y → 1 ≤ y
-  plan-some y (rangePlan h) = omega arith
-  plan-some y (lengthPlan h) = omega arith
-  plan-some y (pastPlan h) = omega arith
-  plan-some y (chainPlan h) = omega arith
-
-  pub plan-7 : (y : ℕ) → 4 ≤ y → PlanRefused b k counters y → (y ≡ 7) × HasChain b (2 * k + 1)
-  plan-7 y l (rangePlan h) = absurd (omega arith)
-  plan-7 y l (lengthPlan h) = absurd (omega arith)
-  plan-7 y l (pastPlan h) = absurd (omega arith)
-  plan-7 y l (chainPlan h) = (refl, h)
+  abbrev pub plans : List Refusal
+  plans = planRefusals b k counters
 
   -- the levels refuse exactly where there is the chain
-  by-levels : (o : Outcome) → plan b k ≡ o → From (PlanRefused b k counters) 4 (refusal o)
-  by-levels (masked l r c) e = record {
-    applies = λ z. absurd (omega arith);
-    lowest = λ y z p. omega arith;
-    none = λ z y (q, p). let f : plan b k ≡ unmaskable = refused-by-chain b k .1 (plan-7 y q p .1) in let g : _≡_ {A = ℕ} 0 1 = cc in omega arith;
-  }
-  by-levels unmaskable e = record {
-    applies = λ z. (omega arith, chainPlan (refused-by-chain b k .0 e));
-    lowest = λ y z (q, p). omega (arith, plan-7 y q p);
-    none = λ z y p. omega arith;
-  }
+  by-levels : (o : Outcome) → plan b k ≡ o → First ((7 when HasChain b (2 * k + 1)) ∷ []) (refusal o)
+  by-levels (masked l r c) e =
+      record { found = inr (λ h. let f : plan b k ≡ unmaskable = refused-by-chain b k .1 h in let g : _≡_ {A = ℕ} 0 1 = cc in omega arith, refl) }
+  by-levels unmaskable e = record { found = inl (refused-by-chain b k .0 e, refl) }
 
-  pub plan-lowest : Lowest (PlanRefused b k counters) (planNumber b k counters)
+  pub plan-first : First plans (planNumber b k counters)
   unfolding planNumber
-  plan-lowest =
-      let P = PlanRefused b k counters in
-      from-first P _ plan-some
-      (test-first P 1 _ _ (omega arith) (Iff·trans (not-iff _ (in-range (b .rows) (b .columns) k)) (rangePlan, plan-1)) (λ _.
-      test-first P 2 _ _ (omega arith) (Iff·trans (not-iff _ (plan-sized b k counters)) (lengthPlan, plan-2)) (λ _.
-      test-first P 3 _ _ (omega arith) (Iff·trans (plan-past-iff b) (pastPlan, plan-3)) (λ _. by-levels (plan b k) refl))))
+  plan-first =
+      first-test 1 _ _ _ _ (not-iff _ (in-range (b .rows) (b .columns) k)) (λ _.
+      first-test 2 _ _ _ _ (not-iff _ (plan-sized b k counters)) (λ _.
+      first-test 3 _ _ _ _ (plan-past-iff b) (λ _. by-levels (plan b k) refl)))
+
+  pub plan-accepted : (x : ℕ) → First plans x → x ≡ 0 → NoneOf plans
+  plan-accepted x f z = accepted _ x (lit< tt, (lit< tt, (lit< tt, (lit< tt, tt)))) f z
 
 -- ---- a store
 
 module _ (b : Block) (k : ℕ) (counters : List ℕ) (cells : ℕ) where
-  store-1 : StoreRefused b k counters cells 1 → InRange (b .rows) (b .columns) k → ⊥
-  store-1 (rangeStore h) = h
+  abbrev pub stores : List Refusal
+  stores = storeRefusals b k counters cells
 
-  store-2 : StoreRefused b k counters cells 2 → StoreLengths b k (length counters) cells → ⊥
-  store-2 (lengthStore h) = h
-
-  store-3 : StoreRefused b k counters cells 3 → PastBlock b ⊎ Spare (width k) (b .rows + b .columns) counters
-  store-3 (pastStore h) = inl h
-  store-3 (spareStore h) = inr h
-
-  pub store-4 : StoreRefused b k counters cells 4 → Above k (b .rows + b .columns) counters
-  store-4 (aboveStore h) = h
-
-  store-some : (y : ℕ) → StoreRefused b k counters cells y → 1 ≤ y
-  store-some y (rangeStore h) = omega arith
-  store-some y (lengthStore h) = omega arith
-  store-some y (pastStore h) = omega arith
-  store-some y (spareStore h) = omega arith
-  store-some y (aboveStore h) = omega arith
-  store-some y (misreadStore h) = omega arith
-
-  pub store-13 : (y : ℕ) → 5 ≤ y → StoreRefused b k counters cells y → (y ≡ 13) × Misread b k counters
-  store-13 y l (rangeStore h) = absurd (omega arith)
-  store-13 y l (lengthStore h) = absurd (omega arith)
-  store-13 y l (pastStore h) = absurd (omega arith)
-  store-13 y l (spareStore h) = absurd (omega arith)
-  store-13 y l (aboveStore h) = absurd (omega arith)
-  store-13 y l (misreadStore h) = (refl, h)
-
-  -- nothing is between 4 and 13
-  after-4 : (x : ℕ) → From (StoreRefused b k counters cells) 13 x → From (StoreRefused b k counters cells) 5 x
-  after-4 x r = record {
-    applies = λ l. let (q, p) = r .applies l in (omega arith, p);
-    lowest = λ y l (q, p). r .lowest y l (omega (arith, store-13 y q p .0), p);
-    none = λ e y (q, p). r .none e y (omega (arith, store-13 y q p .0), p);
-  }
-
-  pub store-lowest : Lowest (StoreRefused b k counters cells) (storeNumber b k counters cells)
+  pub store-first : First stores (storeNumber b k counters cells)
   unfolding storeNumber
-  store-lowest =
-      let P = StoreRefused b k counters cells in
-      from-first P _ store-some
-      (test-first P 1 _ _ (omega arith) (Iff·trans (not-iff _ (in-range (b .rows) (b .columns) k)) (rangeStore, store-1)) (λ _.
-      test-first P 2 _ _ (omega arith) (Iff·trans (not-iff _ (store-sized b k (length counters) cells)) (lengthStore, store-2)) (λ _.
-      test-first P 3 _ _ (omega arith) (Iff·trans (store-past-iff b k counters) (⊎-elim pastStore spareStore, store-3)) (λ _.
-      test-first P 4 _ _ (omega arith) (Iff·trans (above-iff (b .rows + b .columns) k counters) (aboveStore, store-4)) (λ _.
-      after-4 _
-      (test-first P 13 0 _ (omega arith) (Iff·trans (misread-iff b k counters) (misreadStore, λ p. store-13 13 (omega arith) p .1)) (λ _.
-      from-none P 14 (λ y q p. omega (arith, store-13 y (omega arith) p .0)))))))))
+  store-first =
+      first-test 1 _ _ _ _ (not-iff _ (in-range (b .rows) (b .columns) k)) (λ _.
+      first-test 2 _ _ _ _ (not-iff _ (store-sized b k (length counters) cells)) (λ _.
+      first-test 3 _ _ _ _ (store-past-iff b k counters) (λ _.
+      first-test 4 _ _ _ _ (above-iff (b .rows + b .columns) k counters) (λ _.
+      first-test 13 0 _ [] _ (misread-iff b k counters) (λ _. first-none)))))
+
+  pub store-4 : (x : ℕ) → First stores x → x ≡ 4 → Above k (b .rows + b .columns) counters
+  store-4 x f z = told (skip (skip (skip f (λ e. omega arith)) (λ e. omega arith)) (λ e. omega arith)) (λ r. omega (arith, missed (skip r (λ e. omega arith))))
+
+  pub store-accepted : (x : ℕ) → First stores x → x ≡ 0 → NoneOf stores
+  store-accepted x f z = accepted _ x (lit< tt, (lit< tt, (lit< tt, (lit< tt, (lit< tt, tt))))) f z

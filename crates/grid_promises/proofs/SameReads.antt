@@ -10,10 +10,10 @@ use Rattle.bits.proofs.TestLaws.{false-iff}
 use Rattle.rdis.specs.Packing.{width, bytesFor, counter, rowCounter, columnCounter, spareClear, above}
 use Rattle.rdis.proofs.CellLaws.{reading-ext}
 use Rattle.grid_promises.specs.Calls.{readNumber}
-use Rattle.grid_promises.specs.Refusals.{InRange, Above, ReadRefused}
+use Rattle.grid_promises.specs.Refusals.{InRange, Above}
 use Rattle.grid_promises.specs.Promises.{ReadExactly}
 use Rattle.grid_promises.specs.declared.ReadAnswer.{ReadAnswer}
-use Rattle.grid_promises.proofs.RefusalLaws.{in-range, counters-sized, above-iff, held-is, read-4, read-lowest}
+use Rattle.grid_promises.proofs.RefusalLaws.{in-range, counters-sized, above-iff, held-is, read-4, read-first}
 use Rattle.grid_promises.proofs.IndexLaws.{no-index}
 use Rattle.grid_promises.proofs.OneAnswer.{either-way}
 
@@ -34,8 +34,7 @@ module _ (m n k : ℕ) (bs : List ℕ) (s : Readable m n k bs) where
   -- so a read by them names none
   no-four : (cells : List ℕ) (out : ℕ) → readNumber m n k cells bs out ≢ 4
   no-four cells out z =
-      let four = subst (ReadRefused m n k cells bs out) z (read-lowest m n k cells bs out .applies (omega arith)) in
-      no-above (read-4 m n k cells bs out four)
+      no-above (read-4 m n k cells bs out _ (read-first m n k cells bs out) z)
 
   index-none : (cells out : List ℕ) (a : ReadAnswer) (x : List ℕ) → ReadExactly m n k cells bs out a x → a .index ≡ 0
   index-none cells out a x e = e .indexIs ∙ no-index k (m + n) bs (a .number) (λ z. no-four cells (length out) (sym (e .number) ∙ z))

@@ -3,14 +3,14 @@ use Prim.Native.Nat.{ℕ, _+_, _^_, _<_}
 use mathlib.Core.Path.{_≡_, refl, sym, ap, ap₂, subst, _∙_}
 use mathlib.Core.Bool.{false}
 use mathlib.Core.List.{List}
-use mathlib.Core.Logic.{_↔_, inl, inr}
+use mathlib.Core.Logic.{_↔_, _⊎_, inl, inr, ⊎-elim}
 use native.Mathlib.Omega.{arith}
 use lib.ListN.{length}
 use Rattle.bits.specs.Bits.{Below}
-use Rattle.bits.specs.Lowest.{Lowest}
+use Rattle.bits.specs.First.{First}
 use Rattle.bits.proofs.TestLaws.{iff-false, false-iff, iff-stable}
 use Rattle.bits.proofs.BoundLaws.{most-le, most-at}
-use Rattle.bits.proofs.LowestLaws.{lowest-none, lowest-is}
+use Rattle.bits.proofs.FirstLaws.{hit, miss, last, NoneOf, accepts}
 use Rattle.bits.proofs.ByteLaws.{length-words, words-below}
 use Rattle.rdis.specs.Block.{Block, Sized, bit, stuck}
 use Rattle.rdis.specs.Cells.{flips, stored, reading}
@@ -18,50 +18,43 @@ use Rattle.rdis.specs.Packing.{width, counter, rowCounter, columnCounter}
 use Rattle.rdis.proofs.CellLaws.{stuck-held, sound-stored, stored-reads}
 use Rattle.rdis.proofs.CountLaws.{faults-are-cells}
 use Rattle.grid_promises.specs.Calls.{badIndex}
-use Rattle.grid_promises.specs.Refusals.{InRange, StoreLengths, Held, inverted, Misread}
-use Rattle.grid_promises.specs.Refusals.{ReadRefused, rangeRead, lengthRead, pastRead, spareRead, aboveRead}
-use Rattle.grid_promises.specs.Refusals.{StoreRefused, rangeStore, lengthStore, pastStore, spareStore, aboveStore, misreadStore}
+use Rattle.grid_promises.specs.Refusals.{InRange, StoreLengths, PastBlock, Spare, Above, Held, inverted, Misread, readRefusals, storeRefusals}
 use Rattle.grid_promises.specs.Demands.{Greatest}
 use Rattle.grid_promises.specs.Promises.{Read, StoreExactly, Store}
 use Rattle.grid_promises.specs.declared.Answer.{Answer}
-use Rattle.grid_promises.proofs.RefusalLaws.{in-range, store-sized, within, past-iff, counter-held, held-is, misread-iff, read-lowest, store-4, store-13, store-lowest}
+use Rattle.grid_promises.proofs.RefusalLaws.{in-range, store-sized, within, past-iff, counter-held, held-is, misread-iff, read-first, store-4, store-first, store-accepted}
 use Rattle.grid_promises.proofs.IndexLaws.{index-names}
 use Rattle.grid_promises.proofs.ReadDemands.{read-demands}
 
-module _ (b : Block) (k : ℕ) (counters cells : List ℕ) (none : (y : ℕ) → StoreRefused b k counters (length cells) y → ⊥) where
+module _ (b : Block) (k : ℕ) (counters cells : List ℕ) (none : NoneOf (storeRefusals b k counters (length cells))) where
   pub store-range : InRange (b .rows) (b .columns) k
-  store-range = iff-stable _ (in-range (b .rows) (b .columns) k) (λ h. none 1 (rangeStore h))
+  store-range = iff-stable _ (in-range (b .rows) (b .columns) k) (none .0)
 
   pub store-lengths : StoreLengths b k (length counters) (length cells)
-  store-lengths = iff-stable _ (store-sized b k (length counters) (length cells)) (λ h. none 2 (lengthStore h))
+  store-lengths = iff-stable _ (store-sized b k (length counters) (length cells)) (none .1 .0)
 
   store-data : Below (2 ^ b .columns) (b .data·)
-  store-data = within (b .columns) (b .data·) .0 (false-iff _ (past-iff (b .columns) (b .data·)) (λ p. none 3 (pastStore (inl p))))
+  store-data = within (b .columns) (b .data·) .0 (false-iff _ (past-iff (b .columns) (b .data·)) (λ p. none .1 .1 .0 (inl (inl p))))
 
   pub store-mask : Below (2 ^ b .columns) (b .mask)
-  store-mask = within (b .columns) (b .mask) .0 (false-iff _ (past-iff (b .columns) (b .mask)) (λ p. none 3 (pastStore (inr (inl p)))))
+  store-mask = within (b .columns) (b .mask) .0 (false-iff _ (past-iff (b .columns) (b .mask)) (λ p. none .1 .1 .0 (inl (inr (inl p)))))
 
   -- by these counters the stored cells read as the data
   store-shows : let r = rowCounter (width k) counters in let c = columnCounter (width k) (b .rows) counters in reading (b .rows) (b .columns) r c (stored b r c) ≡ b .data·
-  store-shows = stored-reads b _ _ (store-lengths .planned .dataWords, store-data) .0 (false-iff _ (misread-iff b k counters) (λ m. none 13 (misreadStore m)))
+  store-shows = stored-reads b _ _ (store-lengths .planned .dataWords, store-data) .0 (false-iff _ (misread-iff b k counters) (none .1 .1 .1 .1 .0))
 
 module _ (b : Block) (k : ℕ) (counters cells : List ℕ) (a : Answer) (cells′ : List ℕ) (e : StoreExactly b k counters cells a cells′) where
-  abbrev Refused : ℕ → Type 0
-  Refused = StoreRefused b k counters (length cells)
+  found : First (storeRefusals b k counters (length cells)) (a .number)
+  found = subst (First _) (sym (e .number)) (store-first b k counters (length cells))
 
-  lowest-refusal : Lowest Refused (a .number)
-  lowest-refusal = subst (Lowest Refused) (sym (e .number)) (store-lowest b k counters (length cells))
-
-  thirteen : ((x : ℕ) → x < 13 → Refused x → ⊥) → (a .number ≡ 13) ↔ Misread b k counters
-  thirteen h = (
-    λ q. store-13 b k counters (length cells) (a .number) (omega arith) (lowest-refusal .applies (omega arith)) .1,
-    λ m. lowest-is Refused (a .number) 13 lowest-refusal (misreadStore m) h,
-  )
+  thirteen : InRange (b .rows) (b .columns) k → StoreLengths b k (length counters) (length cells) → (PastBlock b ⊎ Spare (width k) (b .rows + b .columns) counters → ⊥)
+      → (Above k (b .rows + b .columns) counters → ⊥) → (a .number ≡ 13) ↔ Misread b k counters
+  thirteen r l h g = let rest = miss (miss (miss (miss found (λ n. n r)) (λ n. n l)) h) g in (λ q. last rest (omega arith), hit rest)
 
   -- it is accepted
   module _ (z : a .number ≡ 0) where
-    none : (y : ℕ) → Refused y → ⊥
-    none = lowest-refusal .none z
+    none : NoneOf (storeRefusals b k counters (length cells))
+    none = store-accepted b k counters (length cells) (a .number) found z
 
     greatest : Greatest (width k) (b .rows + b .columns) counters (a .levels)
     greatest =
@@ -84,17 +77,19 @@ module _ (b : Block) (k : ℕ) (counters cells : List ℕ) (a : Answer) (cells�
         ∙ ap₂ (λ r c. inverted r c (bit (b .data·) i j)) (held-is (width k) i x counters u) (held-is (width k) (b .rows + j) y counters v)
 
     -- what it leaves is read: no refusal applies
-    read-none : (out : List ℕ) → length out ≡ b .rows → (y : ℕ) → ReadRefused (b .rows) (b .columns) k cells′ counters (length out) y → ⊥
-    read-none out l y (rangeRead h) = none 1 (rangeStore h)
-    read-none out l y (lengthRead h) = h (record { cellWords = cells-sized .0; counterBytes = store-lengths b k counters cells none .planned .counterBytes; outWords = l })
-    read-none out l y (pastRead p) = iff-false _ (past-iff (b .columns) cells′) (within (b .columns) cells′ .1 (cells-sized .1)) p
-    read-none out l y (spareRead h) = none 3 (spareStore h)
-    read-none out l y (aboveRead h) = none 4 (aboveStore h)
+    read-none : (out : List ℕ) → length out ≡ b .rows → NoneOf (readRefusals (b .rows) (b .columns) k cells′ counters (length out))
+    read-none out l = (
+      none .0,
+      (
+        λ h. h (record { cellWords = cells-sized .0; counterBytes = store-lengths b k counters cells none .planned .counterBytes; outWords = l }),
+        (⊎-elim (iff-false _ (past-iff (b .columns) cells′) (within (b .columns) cells′ .1 (cells-sized .1))) (λ h. none .1 .1 .0 (inr h)), (none .1 .1 .1 .0, tt)),
+      ),
+    )
 
     reads-back : (out : List ℕ) → length out ≡ b .rows → Read (b .rows) (b .columns) k cells′ counters out (record { number = 0; index = 0 }) (b .data·)
     unfolding badIndex
     reads-back out l = read-demands (b .rows) (b .columns) k cells′ counters out (record { number = 0; index = 0 }) (b .data·) (record {
-      number = sym (lowest-none _ _ (read-lowest (b .rows) (b .columns) k cells′ counters (length out)) (read-none out l));
+      number = sym (accepts _ _ (read-none out l) (read-first (b .rows) (b .columns) k cells′ counters (length out)));
       indexIs = refl;
       untouched = λ q. absurd (omega arith);
       shown = λ _. sym (rw (e .cellsAre z) (store-shows b k counters cells none));
@@ -104,9 +99,8 @@ module _ (b : Block) (k : ℕ) (counters cells : List ℕ) (a : Answer) (cells�
   store-demands = record {
     exactly = e;
     demands = record {
-      lowest = lowest-refusal;
-      names = index-names k (b .rows + b .columns) counters (a .number) (a .index)
-          (λ z. store-4 b k counters (length cells) (subst Refused z (lowest-refusal .applies (omega arith)))) (e .indexIs);
+      first = found;
+      names = index-names k (b .rows + b .columns) counters (a .number) (a .index) (store-4 b k counters (length cells) (a .number) found) (e .indexIs);
       untouched = e .untouched;
       misread = thirteen;
       deepest = greatest;

@@ -3,10 +3,11 @@
 use Prim.Native.Nat.{ℕ, _+_, _<_, _≤_}
 use mathlib.Core.Path.{_≡_}
 use mathlib.Core.Bool.{Bool, not, cond, _&&_}
-use mathlib.Core.List.{List}
+use mathlib.Core.List.{List, [], _∷_}
 use lib.Dec.{leb}
 use lib.ListN.{length}
-use Rattle.bits.specs.Lowest.{Lowest}
+use Rattle.bits.specs.First.{Refusal, _when_, First}
+use Rattle.bits.specs.Ends.{Alike, One, Measured}
 use Rattle.rdis.specs.Block.{Block}
 use Rattle.rdis.specs.Packing.{width, bytesFor, packed, unpacked, above, spareClear}
 use Rattle.grid_promises.specs.Calls.{inRange, countersSized, badIndex}
@@ -44,17 +45,17 @@ pub record ConvertLengths (m n k k′ counters out : ℕ) : Type 0 where
   pub counterBytes : counters ≡ bytesFor (width k) (m + n)
   pub outBytes : out ≡ bytesFor (width k′) (m + n)
 
-pub data ConvertRefused (m n k k′ : ℕ) (counters : List ℕ) (out : ℕ) : ℕ → Type 0 where
-  rangeConvert : (ConvertInRange m n k k′ → ⊥) → ConvertRefused m n k k′ counters out 1
-  lengthConvert : (ConvertLengths m n k k′ (length counters) out → ⊥) → ConvertRefused m n k k′ counters out 2
-  spareConvert : Spare (width k) (m + n) counters → ConvertRefused m n k k′ counters out 3
-  aboveConvert : Above k (m + n) counters → ConvertRefused m n k k′ counters out 4
+-- the refusals in the order in which they are judged
+abbrev pub convertRefusals : (m n k k′ : ℕ) (counters : List ℕ) (out : ℕ) → List Refusal
+convertRefusals m n k k′ counters out =
+    (1 when (ConvertInRange m n k k′ → ⊥)) ∷ (2 when (ConvertLengths m n k k′ (length counters) out → ⊥)) ∷ (3 when Spare (width k) (m + n) counters)
+    ∷ (4 when Above k (m + n) counters) ∷ []
 
 -- ---- what is demanded: lent `out`, which holds `after` at the end
 
 pub record ConvertDemands (m n k k′ : ℕ) (counters out : List ℕ) (answer : ConvertAnswer) (after : List ℕ) : Type 0 where
-  -- the lowest refusal that applies, or 0 where none does
-  pub lowest : Lowest (ConvertRefused m n k k′ counters (length out)) (answer .number)
+  -- the first refusal that applies, or 0 where none does
+  pub first : First (convertRefusals m n k k′ counters (length out)) (answer .number)
   -- with refusal 4 which counter is above K, as a read
   pub names : Names k (m + n) counters (answer .number) (answer .index)
   -- a refusal leaves the output as it was
@@ -78,8 +79,7 @@ pub record ConvertExactly (m n k k′ : ℕ) (counters out : List ℕ) (answer :
 
 -- reads of any cells into any output, at K with the old counters and at the target with the new ones, end the same
 abbrev pub ReadsSame : ℕ → ℕ → ℕ → ℕ → List ℕ → List ℕ → Type 0
-ReadsSame m n k k′ counters after =
-    (cells out : List ℕ) (a a′ : ReadAnswer) (x x′ : List ℕ) → Read m n k cells counters out a x → Read m n k′ cells after out a′ x′ → (a ≡ a′) × (x ≡ x′)
+ReadsSame m n k k′ counters after = (cells out : List ℕ) → Alike (Read m n k cells counters out) (Read m n k′ cells after out)
 
 pub record Convert (m n k k′ : ℕ) (counters out : List ℕ) (answer : ConvertAnswer) (after : List ℕ) : Type 0 where
   pub exactly : ConvertExactly m n k k′ counters out answer after
@@ -92,14 +92,10 @@ pub record Convert (m n k k′ : ℕ) (counters out : List ℕ) (answer : Conver
 -- ---- no second answer: by the exact part, and by the demands alone
 
 abbrev pub OneConvert : Type 0
-OneConvert =
-    (m n k k′ : ℕ) (counters out : List ℕ) (a a′ : ConvertAnswer) (x x′ : List ℕ)
-    → ConvertExactly m n k k′ counters out a x → ConvertExactly m n k k′ counters out a′ x′ → (a ≡ a′) × (x ≡ x′)
+OneConvert = (m n k k′ : ℕ) (counters out : List ℕ) → One (ConvertExactly m n k k′ counters out)
 
 abbrev pub OneConvertByDemands : Type 0
-OneConvertByDemands =
-    (m n k k′ : ℕ) (counters out : List ℕ) (a a′ : ConvertAnswer) (x x′ : List ℕ)
-    → ConvertDemands m n k k′ counters out a x → ConvertDemands m n k k′ counters out a′ x′ → (a ≡ a′) × (x ≡ x′)
+OneConvertByDemands = (m n k k′ : ℕ) (counters out : List ℕ) → One (ConvertDemands m n k k′ counters out)
 
 -- a smaller target is refusal 1, whatever else holds
 abbrev pub SmallerRefused : Type 0
@@ -112,9 +108,7 @@ OutputKeepsLength = (m n k k′ : ℕ) (counters out : List ℕ) (a : ConvertAns
 
 -- of the output only the length counts
 abbrev pub ConvertMeasured : Type 0
-ConvertMeasured =
-    (m n k k′ : ℕ) (counters out out′ : List ℕ) (a a′ : ConvertAnswer) (x x′ : List ℕ)
-    → length out ≡ length out′ → Convert m n k k′ counters out a x → Convert m n k k′ counters out′ a′ x′ → (a ≡ a′) × (a .number ≡ 0 → x ≡ x′)
+ConvertMeasured = (m n k k′ : ℕ) (counters : List ℕ) → Measured (λ a. a .number) (Convert m n k k′ counters)
 
 -- ---- readings, stores and further conversions, by the demands alone
 
@@ -122,13 +116,13 @@ ConvertMeasured =
 abbrev pub ReadsKept : Type 0
 ReadsKept =
     (m n k k′ : ℕ) (counters out after : List ℕ) (a : ConvertAnswer) → ConvertDemands m n k k′ counters out a after → a .number ≡ 0
-    → (cells o : List ℕ) (r r′ : ReadAnswer) (x x′ : List ℕ) → ReadDemands m n k cells counters o r x → ReadDemands m n k′ cells after o r′ x′ → (r ≡ r′) × (x ≡ x′)
+    → (cells o : List ℕ) → Alike (ReadDemands m n k cells counters o) (ReadDemands m n k′ cells after o)
 
 -- and every store: the same number, the same counts and the same cells
 abbrev pub StoresKept : Type 0
 StoresKept =
     (b : Block) (k k′ : ℕ) (counters out after : List ℕ) (a : ConvertAnswer) → ConvertDemands (b .rows) (b .columns) k k′ counters out a after → a .number ≡ 0
-    → (cells : List ℕ) (s s′ : Answer) (x x′ : List ℕ) → StoreDemands b k counters cells s x → StoreDemands b k′ after cells s′ x′ → (s ≡ s′) × (x ≡ x′)
+    → (cells : List ℕ) → Alike (StoreDemands b k counters cells) (StoreDemands b k′ after cells)
 
 -- an accepted conversion to k′, and one from there to k″, leave what one to k″ leaves
 abbrev pub ConvertTwice : Type 0

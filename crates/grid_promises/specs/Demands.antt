@@ -4,15 +4,15 @@ use Prim.Native.Nat.{ℕ, _+_, _*_, _<_, _≤_}
 use mathlib.Core.Path.{_≡_}
 use mathlib.Core.Bool.{true, false}
 use mathlib.Core.List.{List}
-use mathlib.Core.Logic.{_↔_, _≢_}
+use mathlib.Core.Logic.{_↔_, _⊎_, _≢_}
 use lib.ListN.{length}
 use Rattle.bits.specs.Bits.{Below}
-use Rattle.bits.specs.Lowest.{Lowest}
+use Rattle.bits.specs.First.{First}
 use Rattle.rdis.specs.Block.{Block, Sized, bit, stuck, stuckCells, faultyCells}
 use Rattle.rdis.specs.Chains.{HasChain}
 use Rattle.rdis.specs.Facts.{LevelsUsed, CountsLevels}
 use Rattle.rdis.specs.Packing.{width, bytesFor}
-use Rattle.grid_promises.specs.Refusals.{Spare, Held, Misread, inverted, ReadRefused, PlanRefused, StoreRefused}
+use Rattle.grid_promises.specs.Refusals.{InRange, PlanLengths, StoreLengths, PastBlock, Above, Spare, Held, Misread, inverted, readRefusals, planRefusals, storeRefusals}
 use Rattle.grid_promises.specs.declared.ReadAnswer.{ReadAnswer}
 use Rattle.grid_promises.specs.declared.Answer.{Answer}
 
@@ -33,8 +33,8 @@ pub record Names (k n : ℕ) (bs : List ℕ) (number index : ℕ) : Type 0 where
 
 -- of m rows and n columns at K = k: lent `out`, which holds `after` at the end
 pub record ReadDemands (m n k : ℕ) (cells counters out : List ℕ) (answer : ReadAnswer) (after : List ℕ) : Type 0 where
-  -- the lowest refusal that applies, or 0 where none does
-  pub lowest : Lowest (ReadRefused m n k cells counters (length out)) (answer .number)
+  -- the first refusal that applies, or 0 where none does
+  pub first : First (readRefusals m n k cells counters (length out)) (answer .number)
   -- with refusal 4 which counter is above K: the rows' are counted first, from 0, and then the columns'
   pub names : Names k (m + n) counters (answer .number) (answer .index)
   -- a refusal leaves the output as it was
@@ -84,13 +84,13 @@ pub record HeldLines (w m n : ℕ) (bs : List ℕ) (r c : ℕ → ℕ) : Type 0 
 
 -- of the block b at K = k: lent `counters`, which hold `counters′` at the end
 pub record PlanDemands (b : Block) (k : ℕ) (counters : List ℕ) (answer : Answer) (counters′ : List ℕ) : Type 0 where
-  -- the lowest refusal that applies, or 0 where none does
-  pub lowest : Lowest (PlanRefused b k (length counters)) (answer .number)
+  -- the first refusal that applies, or 0 where none does
+  pub first : First (planRefusals b k (length counters)) (answer .number)
   -- it judges no counters, and names none
   pub namesNone : answer .index ≡ 0
   pub untouched : Untouched answer counters counters′
   -- where none of 1, 2 and 3 applies: 7 exactly if there is a chain of 2K + 1 cells
-  pub unmaskable : ((x : ℕ) → x < 7 → PlanRefused b k (length counters) x → ⊥) → (answer .number ≡ 7) ↔ HasChain b (2 * k + 1)
+  pub unmaskable : InRange (b .rows) (b .columns) k → PlanLengths b k (length counters) → (PastBlock b → ⊥) → (answer .number ≡ 7) ↔ HasChain b (2 * k + 1)
   -- L is at most K, the greatest number with a chain of 2L - 1 cells, and 0 exactly where no cell is wrong
   pub deepest : answer .number ≡ 0 → LevelsUsed b k (answer .levels)
   -- F counts the stuck cells one by one, and L takes at least 2L - 1 of them
@@ -112,13 +112,14 @@ pub record Greatest (w n : ℕ) (bs : List ℕ) (x : ℕ) : Type 0 where
 
 -- of the block b at K = k by these counters, whoever made them: lent `cells`, which hold `cells′` at the end
 pub record StoreDemands (b : Block) (k : ℕ) (counters cells : List ℕ) (answer : Answer) (cells′ : List ℕ) : Type 0 where
-  -- the lowest refusal that applies, or 0 where none does
-  pub lowest : Lowest (StoreRefused b k counters (length cells)) (answer .number)
+  -- the first refusal that applies, or 0 where none does
+  pub first : First (storeRefusals b k counters (length cells)) (answer .number)
   -- with refusal 4 which counter is above K, as a read
   pub names : Names k (b .rows + b .columns) counters (answer .number) (answer .index)
   pub untouched : Untouched answer cells cells′
   -- where none of 1 to 4 applies: 13 exactly if some stuck cell would read wrong
-  pub misread : ((x : ℕ) → x < 13 → StoreRefused b k counters (length cells) x → ⊥) → (answer .number ≡ 13) ↔ Misread b k counters
+  pub misread : InRange (b .rows) (b .columns) k → StoreLengths b k (length counters) (length cells) → (PastBlock b ⊎ Spare (width k) (b .rows + b .columns) counters → ⊥)
+      → (Above k (b .rows + b .columns) counters → ⊥) → (answer .number ≡ 13) ↔ Misread b k counters
   -- L is the greatest counter
   pub deepest : answer .number ≡ 0 → Greatest (width k) (b .rows + b .columns) counters (answer .levels)
   -- F counts the stuck cells one by one, and the wrong and the right ones are counted too

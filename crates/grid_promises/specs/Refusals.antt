@@ -3,11 +3,12 @@
 use Prim.Native.Nat.{ℕ, _+_, _*_, _%_, _^_, _<_, _≤_, min}
 use mathlib.Core.Path.{_≡_}
 use mathlib.Core.Bool.{Bool, true, xor}
-use mathlib.Core.List.{List}
+use mathlib.Core.List.{List, [], _∷_}
 use mathlib.Core.Logic.{_⊎_, _≢_}
 use lib.Dec.{eqb}
 use lib.ListN.{length}
 use Rattle.bits.specs.Bits.{has, number}
+use Rattle.bits.specs.First.{Refusal, _when_}
 use Rattle.rdis.specs.Block.{Block, bit, stuck}
 use Rattle.rdis.specs.Chains.{HasChain}
 use Rattle.rdis.specs.Packing.{width, bytesFor}
@@ -56,24 +57,20 @@ Above k n bs = (t : ℕ) × (t < n) × ((x : ℕ) × Held (width k) bs t x × (k
 abbrev pub inverted : ℕ → ℕ → Bool → Bool
 inverted x y v = xor (eqb (min x y % 2) 1) v
 
--- the refusals of a read, each by its number. Of the output only the length counts
-pub data ReadRefused (m n k : ℕ) (cells counters : List ℕ) (out : ℕ) : ℕ → Type 0 where
-  rangeRead : (InRange m n k → ⊥) → ReadRefused m n k cells counters out 1
-  lengthRead : (ReadLengths m n k (length cells) (length counters) out → ⊥) → ReadRefused m n k cells counters out 2
-  pastRead : Past n cells → ReadRefused m n k cells counters out 3
-  spareRead : Spare (width k) (m + n) counters → ReadRefused m n k cells counters out 3
-  aboveRead : Above k (m + n) counters → ReadRefused m n k cells counters out 4
+-- the refusals of a read, in the order in which they are judged. Of the output only the length counts
+abbrev pub readRefusals : (m n k : ℕ) (cells counters : List ℕ) (out : ℕ) → List Refusal
+readRefusals m n k cells counters out =
+    (1 when (InRange m n k → ⊥)) ∷ (2 when (ReadLengths m n k (length cells) (length counters) out → ⊥))
+    ∷ (3 when (Past n cells ⊎ Spare (width k) (m + n) counters)) ∷ (4 when Above k (m + n) counters) ∷ []
 
 -- a word of data, mask or values has a bit past the last column
 abbrev pub PastBlock : Block → Type 0
 PastBlock b = Past (b .columns) (b .data·) ⊎ (Past (b .columns) (b .mask) ⊎ Past (b .columns) (b .values))
 
 -- the refusals of a plan. Of the old counters only the length counts
-pub data PlanRefused (b : Block) (k counters : ℕ) : ℕ → Type 0 where
-  rangePlan : (InRange (b .rows) (b .columns) k → ⊥) → PlanRefused b k counters 1
-  lengthPlan : (PlanLengths b k counters → ⊥) → PlanRefused b k counters 2
-  pastPlan : PastBlock b → PlanRefused b k counters 3
-  chainPlan : HasChain b (2 * k + 1) → PlanRefused b k counters 7
+abbrev pub planRefusals : Block → (k counters : ℕ) → List Refusal
+planRefusals b k counters =
+    (1 when (InRange (b .rows) (b .columns) k → ⊥)) ∷ (2 when (PlanLengths b k counters → ⊥)) ∷ (3 when PastBlock b) ∷ (7 when HasChain b (2 * k + 1)) ∷ []
 
 -- some stuck cell (i, j) would read wrong by the counters x of its row and y of its column: its stuck value, inverted where they say so, is not its data bit
 pub record Misread (b : Block) (k : ℕ) (counters : List ℕ) : Type 0 where
@@ -88,10 +85,7 @@ pub record Misread (b : Block) (k : ℕ) (counters : List ℕ) : Type 0 where
   pub wrong : inverted x y (bit (b .values) i j) ≢ bit (b .data·) i j
 
 -- the refusals of a store. Of the old cells only the length counts
-pub data StoreRefused (b : Block) (k : ℕ) (counters : List ℕ) (cells : ℕ) : ℕ → Type 0 where
-  rangeStore : (InRange (b .rows) (b .columns) k → ⊥) → StoreRefused b k counters cells 1
-  lengthStore : (StoreLengths b k (length counters) cells → ⊥) → StoreRefused b k counters cells 2
-  pastStore : PastBlock b → StoreRefused b k counters cells 3
-  spareStore : Spare (width k) (b .rows + b .columns) counters → StoreRefused b k counters cells 3
-  aboveStore : Above k (b .rows + b .columns) counters → StoreRefused b k counters cells 4
-  misreadStore : Misread b k counters → StoreRefused b k counters cells 13
+abbrev pub storeRefusals : Block → ℕ → (counters : List ℕ) (cells : ℕ) → List Refusal
+storeRefusals b k counters cells =
+    (1 when (InRange (b .rows) (b .columns) k → ⊥)) ∷ (2 when (StoreLengths b k (length counters) cells → ⊥))
+    ∷ (3 when (PastBlock b ⊎ Spare (width k) (b .rows + b .columns) counters)) ∷ (4 when Above k (b .rows + b .columns) counters) ∷ (13 when Misread b k counters) ∷ []

@@ -7,6 +7,7 @@ use mathlib.Core.Logic.{_↔_}
 use lib.Dec.{eqb, ltb}
 use lib.ListN.{length}
 use Rattle.bits.specs.Bits.{some, first}
+use Rattle.bits.specs.Ends.{One, Measured}
 use Rattle.rdis.specs.Block.{Block, bit, stuck}
 use Rattle.rdis.specs.Levels.{plan}
 use Rattle.rdis.specs.Cells.{stored, reading}
@@ -22,36 +23,24 @@ use Rattle.grid_promises.specs.declared.Answer.{Answer}
 -- ---- no second answer: two calls with the same arguments end the same
 
 abbrev pub OneRead : Type 0
-OneRead =
-    (m n k : ℕ) (cells counters out : List ℕ) (a a′ : ReadAnswer) (x x′ : List ℕ)
-    → ReadExactly m n k cells counters out a x → ReadExactly m n k cells counters out a′ x′ → (a ≡ a′) × (x ≡ x′)
+OneRead = (m n k : ℕ) (cells counters out : List ℕ) → One (ReadExactly m n k cells counters out)
 
 abbrev pub OnePlan : Type 0
-OnePlan =
-    (b : Block) (k : ℕ) (counters : List ℕ) (a a′ : Answer) (x x′ : List ℕ)
-    → PlanExactly b k counters a x → PlanExactly b k counters a′ x′ → (a ≡ a′) × (x ≡ x′)
+OnePlan = (b : Block) (k : ℕ) (counters : List ℕ) → One (PlanExactly b k counters)
 
 abbrev pub OneStore : Type 0
-OneStore =
-    (b : Block) (k : ℕ) (counters cells : List ℕ) (a a′ : Answer) (x x′ : List ℕ)
-    → StoreExactly b k counters cells a x → StoreExactly b k counters cells a′ x′ → (a ≡ a′) × (x ≡ x′)
+OneStore = (b : Block) (k : ℕ) (counters cells : List ℕ) → One (StoreExactly b k counters cells)
 
 -- ---- nor one that keeps the demands alone: who believes only them needs no computed part
 
 abbrev pub OneReadByDemands : Type 0
-OneReadByDemands =
-    (m n k : ℕ) (cells counters out : List ℕ) (a a′ : ReadAnswer) (x x′ : List ℕ)
-    → ReadDemands m n k cells counters out a x → ReadDemands m n k cells counters out a′ x′ → (a ≡ a′) × (x ≡ x′)
+OneReadByDemands = (m n k : ℕ) (cells counters out : List ℕ) → One (ReadDemands m n k cells counters out)
 
 abbrev pub OnePlanByDemands : Type 0
-OnePlanByDemands =
-    (b : Block) (k : ℕ) (counters : List ℕ) (a a′ : Answer) (x x′ : List ℕ)
-    → PlanDemands b k counters a x → PlanDemands b k counters a′ x′ → (a ≡ a′) × (x ≡ x′)
+OnePlanByDemands = (b : Block) (k : ℕ) (counters : List ℕ) → One (PlanDemands b k counters)
 
 abbrev pub OneStoreByDemands : Type 0
-OneStoreByDemands =
-    (b : Block) (k : ℕ) (counters cells : List ℕ) (a a′ : Answer) (x x′ : List ℕ)
-    → StoreDemands b k counters cells a x → StoreDemands b k counters cells a′ x′ → (a ≡ a′) × (x ≡ x′)
+OneStoreByDemands = (b : Block) (k : ℕ) (counters cells : List ℕ) → One (StoreDemands b k counters cells)
 
 -- ---- what is said of the two kinds of stuck cells is enough for demand 3's bound
 
@@ -80,21 +69,15 @@ PlanThenStore =
 
 -- of a read's output only the length: reads into others of that length answer the same and, if accepted, fill them the same
 abbrev pub OutputMeasured : Type 0
-OutputMeasured =
-    (m n k : ℕ) (cells counters out out′ : List ℕ) (a a′ : ReadAnswer) (x x′ : List ℕ)
-    → length out ≡ length out′ → Read m n k cells counters out a x → Read m n k cells counters out′ a′ x′ → (a ≡ a′) × (a .number ≡ 0 → x ≡ x′)
+OutputMeasured = (m n k : ℕ) (cells counters : List ℕ) → Measured (λ a. a .number) (Read m n k cells counters)
 
 -- of a plan's old counters only the length
 abbrev pub OldCountersMeasured : Type 0
-OldCountersMeasured =
-    (b : Block) (k : ℕ) (counters counters₀ : List ℕ) (a a′ : Answer) (x x′ : List ℕ)
-    → length counters ≡ length counters₀ → Plan b k counters a x → Plan b k counters₀ a′ x′ → (a ≡ a′) × (a .number ≡ 0 → x ≡ x′)
+OldCountersMeasured = (b : Block) (k : ℕ) → Measured (λ a. a .number) (Plan b k)
 
 -- of a store's old cells only the length
 abbrev pub OldCellsMeasured : Type 0
-OldCellsMeasured =
-    (b : Block) (k : ℕ) (counters cells cells₀ : List ℕ) (a a′ : Answer) (x x′ : List ℕ)
-    → length cells ≡ length cells₀ → Store b k counters cells a x → Store b k counters cells₀ a′ x′ → (a ≡ a′) × (a .number ≡ 0 → x ≡ x′)
+OldCellsMeasured = (b : Block) (k : ℕ) (counters : List ℕ) → Measured (λ a. a .number) (Store b k counters)
 
 -- values v in place of the block's, of the same length, with bits past the last column where those have any, that agree with them at the stuck cells
 pub record SameWhereStuck (b : Block) (v : List ℕ) : Type 0 where

@@ -9,8 +9,8 @@ pub store-by-spec : {M : Type 1} → statement M
 store-by-spec =
     tie.close
     (tie.spec
-    -- show-requires
-    (λ c κs. search needs)
+    -- show-sized-requires
+    (λ c κs. let s = c .before .before .before .before .before .before .before in let p = s .pre .0 .planned in record { ranges = p .ranges; sizes = p .sizes; room = s .pre .1 .1 })
     -- refused-requires
     (λ c κs. search needs)
     -- same-length
@@ -19,14 +19,14 @@ store-by-spec =
     (λ c.
     let s = c .before .before .before .before .before .before .before .before .before .before .before .before .before in
     let a = s .args in
-    let i = c .before .before .before .before .before .show in
+    let i = c .before .before .before .before .before .show-sized in
     store-refused (a .columns) (a .k) (a .«data» .now) (a .mask .now) (a .values .now) (a .counters .now) (a .cells .now) (s .pre .0) (s .pre .1 .0) _ _ (s .pre .1 .1) (i .result) (i .ensures)
     (c .refused .result) (c .before .if1 .taken) (c .refused .ensures))
     -- misreads-requires
     (λ c κs.
     let s = c .before .before .before .before .before .before .before .before .before .before .before .before .before in
     let a = s .args in
-    let i = c .before .before .before .before .before .show in
+    let i = c .before .before .before .before .before .show-sized in
     apart-rows (a .columns) (a .k) (a .«data» .now) (a .mask .now) (a .values .now) (a .counters .now) (a .cells .now) (s .pre .0) (s .pre .1 .0) _ _ (s .pre .1 .1) (i .result) (i .ensures) (c .before .if1 .left))
     -- refused-requires-2
     (λ c κs. search needs)
@@ -36,7 +36,7 @@ store-by-spec =
     (λ c.
     let s = c .before .before .before .before .before .before .before .before .before .before .before .before .before .before .before .before in
     let a = s .args in
-    let i = c .before .before .before .before .before .before .before .before .show in
+    let i = c .before .before .before .before .before .before .before .before .show-sized in
     store-misread (a .columns) (a .k) (a .«data» .now) (a .mask .now) (a .values .now) (a .counters .now) (a .cells .now) (s .pre .0) (s .pre .1 .0) _ _ (s .pre .1 .1) (i .result) (i .ensures)
     (c .before .before .before .before .if1 .left) _ (c .before .before .misreads .ensures) (c .refused2 .result) (c .before .if2 .taken) (c .refused2 .ensures))
     -- copy-requires
@@ -54,6 +54,6 @@ store-by-spec =
     (λ c.
     let s = c .before .before .before .before .before .before .before .before .before .before .before .before .before .before .before .before .before .before .before .before .before in
     let a = s .args in
-    let i = c .before .before .before .before .before .before .before .before .before .before .before .before .before .show in
+    let i = c .before .before .before .before .before .before .before .before .before .before .before .before .before .show-sized in
     store-done (a .columns) (a .k) (a .«data» .now) (a .mask .now) (a .values .now) (a .counters .now) (a .cells .now) (s .pre .0) (s .pre .1 .0) _ _ (s .pre .1 .1) (i .result) (i .ensures)
     (c .before .before .before .before .before .before .before .before .before .if1 .left) _ (c .before .before .before .before .before .before .before .misreads .ensures) _ _ (c .before .before .before .before .before .before .if2 .left) (c .accepted .ensures) (c .before .before .before .copy .ensures)))
