@@ -1,11 +1,11 @@
 -- What a code proof cites at each return of a plan: from the tests' values and the sets that the levels took to the whole promise. Assumes nothing.
-use Prim.Native.Nat.{ℕ, _+_, _≤_}
+use Prim.Native.Nat.{ℕ, _+_, _≤_, _<_}
 use mathlib.Core.Path.{_≡_, refl, sym, ap, ap₂, subst, _∙_}
 use mathlib.Core.Bool.{true, false, not, cond}
 use mathlib.Core.List.{List, _++_}
 use native.Mathlib.Omega.{arith}
-use lib.ListN.{length}
-use Rattle.bits.proofs.TestLaws.{clash}
+use lib.ListN.{length, getD}
+use Rattle.bits.specs.Bits.{num, sum, list, has}
 use Rattle.bits.proofs.BoundLaws.{list-ext}
 use Rattle.rdis.specs.Block.{Block}
 use Rattle.rdis.specs.Levels.{Outcome, masked, unmaskable, plan}
@@ -13,7 +13,7 @@ use Rattle.rdis.specs.Packing.{width, inOrder, packed}
 use Rattle.rdis.proofs.PackingLaws.{width-holds}
 use Rattle.grid_sets.specs.Sets.{times}
 use Rattle.grid_counters.specs.Promises.{packable, Pack}
-use Rattle.grid_counters.proofs.PromiseLaws.{can-pack}
+use Rattle.grid_counters.proofs.PromiseLaws.{can-pack, cleared, packed-one}
 use Rattle.grid_promises.specs.Calls.{inRange, block, planSized, planPast, planNumber}
 use Rattle.grid_promises.specs.Refusals.{PlanLengths}
 use Rattle.grid_promises.specs.Promises.{Plan}
@@ -21,7 +21,6 @@ use Rattle.grid_promises.specs.declared.Answer.{Answer}
 use Rattle.grid_promises.proofs.RefusalLaws.{in-range, plan-sized}
 use Rattle.grid_promises.proofs.PlanDemands.{plan-demands}
 use Rattle.grid_checks.specs.Numbers.{judged, planJudged}
-use Rattle.grid.specs.declared.levels.Taken.{Taken}
 use Rattle.grid.specs.Steps.{blockOf, PlanSized, Counts, Follows, Refuses, Accepts}
 use Rattle.grid.proofs.Returns.{stands, passes, mask-inside}
 
@@ -70,20 +69,26 @@ module _ (m n k : ℕ) (d mask values counters : List ℕ) (x : ℕ) (e : x ≡ 
 
 -- ---- how the levels ended
 
-lost : (t : Taken) (o : Outcome) → Follows t o → t .ended ≡ false → o ≡ unmaskable
-lost t (masked l r c) f e = clash (f .ended) e
-lost t unmaskable f e = refl
+module _ (k : ℕ) (rows₀ columns₀ rows columns : List ℕ) (u : ℕ) where
+  lost : (o : Outcome) → Follows k 0 rows₀ columns₀ rows columns u o → k < u → o ≡ unmaskable
+  lost (masked l r c) f e = absurd (omega (arith, f .few))
+  lost unmaskable f e = refl
 
-record Found (t : Taken) (o : Outcome) : Type 0 where
-  l : ℕ
-  r : ℕ → ℕ
-  c : ℕ → ℕ
-  masks : o ≡ masked l r c
-  counts : Counts t l r c
+  record Found (o : Outcome) : Type 0 where
+    l : ℕ
+    r : ℕ → ℕ
+    c : ℕ → ℕ
+    masks : o ≡ masked l r c
+    counts : Counts k 0 rows₀ columns₀ rows columns u l r c
 
-found : (t : Taken) (o : Outcome) → Follows t o → t .ended ≡ true → Found t o
-found t (masked l r c) f e = record { l = l; r = r; c = c; masks = refl; counts = f }
-found t unmaskable f e = clash e f
+  found : (o : Outcome) → Follows k 0 rows₀ columns₀ rows columns u o → u ≤ k → Found o
+  found (masked l r c) f e = record { l = l; r = r; c = c; masks = refl; counts = f }
+  found unmaskable f e = absurd (omega (arith, f))
+
+-- no place is before the first
+all-of : (sets₀ sets : List ℕ) (u i x : ℕ) → times sets (0 + u) i ≡ times sets₀ 0 i + x → times sets u i ≡ x
+unfolding times sum
+all-of sets₀ sets u i x h = let e : 0 + u ≡ u = omega arith in ap (λ m. times sets m i) (sym e) ∙ h ∙ omega arith
 
 module _ (n k : ℕ) (d mask values counters : List ℕ) (s : PlanSized n k d mask values counters) (a : Answer) where
   abbrev own : Block
@@ -96,30 +101,53 @@ module _ (n k : ℕ) (d mask values counters : List ℕ) (s : PlanSized n k d ma
   unfolding planNumber
   plan-past h r = refused-plan own k counters a 3 (λ z. omega arith) (rw (s .ranges, lengths-right, h)) r
 
-  module _ (inside : planPast own ≡ false) (t : Taken) (h : (t .used ≤ k) × Follows t (plan own k)) where
-    pub plan-unmaskable : t .ended ≡ false → Refuses 7 0 a → Plan own k counters a counters
+  module _ (inside : planPast own ≡ false) (rows₀ columns₀ rows columns : List ℕ) (u : ℕ) (h : Follows k 0 rows₀ columns₀ rows columns u (plan own k)) where
+    pub plan-unmaskable : k < u → Refuses 7 0 a → Plan own k counters a counters
     unfolding planNumber
-    plan-unmaskable e r = refused-plan own k counters a 7 (λ z. omega arith) (rw (s .ranges, lengths-right, inside, lost t (plan own k) (h .1) e)) r
+    plan-unmaskable e r =
+        refused-plan own k counters a 7 (λ z. omega arith) (rw (s .ranges, lengths-right, inside, lost k rows₀ columns₀ rows columns u (plan own k) h e)) r
 
     -- there is room for the counters of the levels that were used
-    has-room : packable k (length d) n (t .used) (length counters) ≡ true
-    has-room =
+    has-room : u ≤ k → packable k (length d) n u (length counters) ≡ true
+    has-room e =
         let r = in-range (length d) n k .0 (s .ranges) in
-        can-pack k (length d) n (t .used) (length counters) (omega (arith, h .0, width-holds k (r .levels .1))) (record { rows = r .rows .1; columns = r .columns .1; size = s .sizes })
+        can-pack k (length d) n u (length counters) (omega (arith, width-holds k (r .levels .1))) (record { rows = r .rows .1; columns = r .columns .1; size = s .sizes })
 
-    pub plan-done : (counters′ : List ℕ) → t .ended ≡ true → Accepts d mask values (t .used) a
-        → Pack k (length d) n (t .used) (t .rows) (t .columns) counters counters′ → Plan own k counters a counters′
+    pub plan-done : (counters′ : List ℕ) → u ≤ k → Accepts d mask values u a → Pack k (length d) n u rows columns counters counters′ → Plan own k counters a counters′
     unfolding planNumber
     plan-done counters′ e g p =
-        let f = found t (plan own k) (h .1) e in
-        let counted : inOrder (length d) n (times (t .rows) (t .used)) (times (t .columns) (t .used)) ≡ inOrder (length d) n (f .r) (f .c) =
-        ap₂ _++_ (list-ext (length d) (times (t .rows) (t .used)) (f .r) (λ i _. f .counts .rows i)) (list-ext n (times (t .columns) (t .used)) (f .c) (λ j _. f .counts .columns j)) in
+        let f = found k rows₀ columns₀ rows columns u (plan own k) h e in
+        let counted : inOrder (length d) n (times rows u) (times columns u) ≡ inOrder (length d) n (f .r) (f .c) =
+        ap₂ _++_ (list-ext (length d) (times rows u) (f .r) (λ i _. all-of rows₀ rows u i (f .r i) (f .counts .rows i)))
+        (list-ext n (times columns u) (f .c) (λ j _. all-of columns₀ columns u j (f .c j) (f .counts .columns j))) in
         plan-demands own k counters a counters′ (record {
           number = g .number ∙ rw (s .ranges, lengths-right, inside, f .masks);
           indexIs = g .index;
           untouched = λ l. absurd (omega (arith, g .number));
-          countersAre = λ _. rw (f .masks) (p .bytes has-room ∙ ap (packed (width k)) counted);
+          countersAre = λ _. rw (f .masks) (p .bytes (has-room e) ∙ ap (packed (width k)) counted);
           levelsAre = λ _. rw (f .masks) (g .levels ∙ f .counts .used);
           faultsAre = λ _. g .faultsAre;
           kindsAre = λ _. g .kindsAre n (mask-inside n d mask values inside);
         })
+
+    -- no level, and the counters of none
+    pub plan-clear : (counters′ : List ℕ) → u ≡ 0 → Accepts d mask values u a → counters′ ≡ list (length counters) (λ _. 0) → Plan own k counters a counters′
+    plan-clear counters′ z g e =
+        let l : u ≤ k = omega arith in
+        let room : packable k (length d) n 0 (length counters) ≡ true = subst (λ x. packable k (length d) n x (length counters) ≡ true) z (has-room l) in
+        plan-done counters′ l g (subst (λ x. Pack k (length d) n x rows columns counters counters′) (sym z) (cleared k (length d) n rows columns counters counters′ room e))
+
+    -- one level, and the counters of its sets
+    pub plan-one : (counters′ : List ℕ) (x y : ℕ) → u ≡ 1 → 1 ≤ k → getD rows 0 0 ≡ x → getD columns 0 0 ≡ y → Accepts d mask values 1 a
+        → counters′ ≡ packed (width k) (inOrder (length d) n (λ i. num (has x i)) (λ j. num (has y j))) → Plan own k counters a counters′
+    plan-one counters′ x y z l p q g e =
+        let l′ : u ≤ k = omega arith in
+        let room : packable k (length d) n 1 (length counters) ≡ true = subst (λ v. packable k (length d) n v (length counters) ≡ true) z (has-room l′) in
+        plan-done counters′ l′ (subst (λ v. Accepts d mask values v a) (sym z) g)
+        (subst (λ v. Pack k (length d) n v rows columns counters counters′) (sym z) (packed-one k (length d) n x y rows columns counters counters′ p q room e))
+
+-- there is room for the counters of one level
+pub one-room : (n k : ℕ) (d mask values counters : List ℕ) → PlanSized n k d mask values counters → packable k (length d) n 1 (length counters) ≡ true
+one-room n k d mask values counters s =
+    let r = in-range (length d) n k .0 (s .ranges) in
+    can-pack k (length d) n 1 (length counters) (omega (arith, r .levels .0, width-holds k (r .levels .1))) (record { rows = r .rows .1; columns = r .columns .1; size = s .sizes })

@@ -1,20 +1,20 @@
 -- What the private steps of a plan, a store and a read say. Nobody who reads the promises needs this page. Assumes nothing.
-use Prim.Native.Nat.{ℕ, _+_, _^_, _<_, _≤_}
+use Prim.Native.Nat.{ℕ, suc, _+_, _-_, _^_, _<_, _≤_}
 use mathlib.Core.Path.{_≡_}
 use mathlib.Core.Bool.{Bool, true, false, xor, _&&_}
 use mathlib.Core.List.{List}
-use lib.ListN.{length}
+use lib.ListN.{length, getD}
 use Rattle.bits.specs.Bits.{some, most, Below}
 use Rattle.rdis.specs.Block.{Block, bit, faults}
-use Rattle.rdis.specs.Levels.{Subgrid, Outcome, masked, unmaskable, levels}
+use Rattle.rdis.specs.Levels.{Subgrid, whole, taken, Outcome, masked, unmaskable, levels}
 use Rattle.rdis.specs.Packing.{width, bytesFor, counter}
 use Rattle.grid_sets.specs.Sets.{times}
 use Rattle.grid_promises.specs.Calls.{block, inRange}
 use Rattle.grid_promises.specs.Demands.{CountsNothing, CountsKinds}
 use Rattle.grid_promises.specs.Promises.{Read}
 use Rattle.grid_promises.specs.declared.Answer.{Answer}
+use Rattle.grid.specs.declared.levels.First.{First}
 use Rattle.grid.specs.declared.levels.Sub.{Sub}
-use Rattle.grid.specs.declared.levels.Taken.{Taken}
 use Rattle.grid.specs.declared.shows.Shown.{Shown}
 
 -- the block of three slices of words, as one of n columns
@@ -46,23 +46,32 @@ pub record Rows (d mask values : List ℕ) : Type 0 where
 abbrev pub subgrid : Sub → Subgrid
 subgrid s = record { rows = s .rows; columns = s .columns }
 
--- the sets that the levels took give the counters of an outcome
-pub record Counts (p : Taken) (l : ℕ) (r c : ℕ → ℕ) : Type 0 where
-  pub ended : p .ended ≡ true
-  pub used : p .used ≡ l
-  pub rows : (i : ℕ) → times (p .rows) (p .used) i ≡ r i
-  pub columns : (j : ℕ) → times (p .columns) (p .used) j ≡ c j
+-- t is what a level takes of the subgrid s in the sense w, whatever number of columns holds s
+pub record Takes (d mask values : List ℕ) (s : Subgrid) (w : Bool) (t : Subgrid) : Type 0 where
+  pub few : t .rows < 2 ^ length d
+  pub taken· : (n : ℕ) → s .columns < 2 ^ n → t ≡ taken (blockOf n d mask values) w s
 
-abbrev pub Follows : Taken → Outcome → Type 0
-Follows p (masked l r c) = Counts p l r c
-Follows p unmaskable = p .ended ≡ false
+-- what the first level takes of n columns
+abbrev pub FirstTaken : ℕ → List ℕ → List ℕ → List ℕ → ℕ → ℕ → Type 0
+FirstTaken n d mask values r c = _≡_ {A = Subgrid} (record { rows = r; columns = c }) (taken (blockOf n d mask values) true (whole (blockOf n d mask values)))
+
+-- of u levels, at most k, the sets stand from place `at` on, and raise what the places before them count by the counters of an outcome
+pub record Counts (k at : ℕ) (rows₀ columns₀ rows′ columns′ : List ℕ) (u l : ℕ) (r c : ℕ → ℕ) : Type 0 where
+  pub few : u ≤ k
+  pub used : u ≡ l
+  pub rows : (i : ℕ) → times rows′ (at + u) i ≡ times rows₀ at i + r i
+  pub columns : (j : ℕ) → times columns′ (at + u) j ≡ times columns₀ at j + c j
+
+abbrev pub Follows : ℕ → ℕ → List ℕ → List ℕ → List ℕ → List ℕ → ℕ → Outcome → Type 0
+Follows k at rows₀ columns₀ rows′ columns′ u (masked l r c) = Counts k at rows₀ columns₀ rows′ columns′ u l r c
+Follows k at rows₀ columns₀ rows′ columns′ u unmaskable = u ≡ suc k
 
 -- at most k levels from the subgrid s on, in the sense w, whatever number of columns holds s
-pub record Planned (d mask values : List ℕ) (s : Sub) (w : Bool) (k : ℕ) (t : Taken) : Type 0 where
-  pub few : t .used ≤ k
-  pub rowSets : length (t .rows) ≡ 8
-  pub columnSets : length (t .columns) ≡ 8
-  pub follows : (n : ℕ) → s .columns < 2 ^ n → Follows t (levels (blockOf n d mask values) k w (subgrid s))
+pub record Planned (d mask values : List ℕ) (s : Subgrid) (w : Bool) (k at : ℕ) (rows₀ columns₀ rows′ columns′ : List ℕ) (u : ℕ) : Type 0 where
+  pub few : u ≤ suc k
+  pub keptRows : (i : ℕ) → i < at → getD rows′ i 0 ≡ getD rows₀ i 0
+  pub keptColumns : (i : ℕ) → i < at → getD columns′ i 0 ≡ getD columns₀ i 0
+  pub follows : (n : ℕ) → s .columns < 2 ^ n → Follows k at rows₀ columns₀ rows′ columns′ u (levels (blockOf n d mask values) k w s)
 
 -- ---- the answers of a plan and a store
 
@@ -79,6 +88,13 @@ pub record Accepts (d mask values : List ℕ) (l : ℕ) (a : Answer) : Type 0 wh
   pub levels : a .levels ≡ l
   pub faultsAre : a .faults ≡ faults (length d) mask
   pub kindsAre : (n : ℕ) → Below (2 ^ n) mask → CountsKinds (blockOf n d mask values) a
+
+-- what the first pass over the stuck cells finds: the counts of an answer, and what the first level takes, whatever number of columns holds the mask
+pub record Begins (d mask values : List ℕ) (f : First) : Type 0 where
+  pub few : f .rows < 2 ^ length d
+  pub least : f .wrong ≤ f .faults
+  pub accepts : (l : ℕ) → Accepts d mask values l (record { number = 0; levels = l; faults = f .faults; wrong = f .wrong; right = f .faults - f .wrong; index = 0 })
+  pub takes· : (n : ℕ) → Below (2 ^ n) mask → FirstTaken n d mask values (f .rows) (f .columns)
 
 -- ---- a store
 

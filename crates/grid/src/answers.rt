@@ -1,14 +1,8 @@
 // The two answers of a plan and a store: one that refuses counts nothing, one that accepts counts the stuck cells.
-use crate::levels::mark_if;
 use crate::levels::stuck_as;
+use crate::levels::stuck_rows;
 use grid_promises::Answer;
 use refusals::ACCEPTED;
-ghost use mathlib.Core.Path.{_≡_};
-ghost use mathlib.Core.Bool.{not};
-ghost use Prim.Native.Nat.{_≤_};
-ghost use lib.Dec.{eqb};
-ghost use lib.ListN.{length, getD};
-ghost use Rattle.bits.specs.Bits.{word};
 ghost use Rattle.grid.specs.Steps.{Rows, Refuses, Accepts};
 
 pub fn refused(number: usize, index: usize) -> Answer
@@ -22,20 +16,6 @@ pub fn refused(number: usize, index: usize) -> Answer
         right: 0,
         index,
     }
-}
-
-// The rows that hold a stuck cell.
-fn stuck_rows(mask: &[u64]) -> u64
-    requires { ⌜ length (now mask) ≤ 64 ⌝ }
-    ensures { λ r. ⌜ r ≡ word (length (now (mask .entry))) (λ i. not (eqb (getD (now (mask .entry)) i 0) 0)) ⌝ }
-{
-    let mut rows = 0u64;
-    let mut i = mask.len();
-    while i > 0 {
-        i -= 1;
-        rows = rows * 2 + mark_if(mask[i] != 0, 0);
-    }
-    rows
 }
 
 // The answer with these levels. The cells are counted in the rows that hold a stuck one: they are few.

@@ -9,6 +9,7 @@ use crate::answers::refused;
 use grid_promises::Answer;
 use grid_promises::ConvertAnswer;
 use grid_promises::ReadAnswer;
+use grid_sets::LEVELS;
 use grid_sets::LINES;
 use refusals::ACCEPTED;
 use refusals::BIT_PAST_END;
@@ -82,23 +83,61 @@ fn plan_sized(
     if !grid_checks::all_within(data, mask, values, columns) {
         return refused(BIT_PAST_END, 0);
     }
-    let t = levels::plan(columns, k, data, mask, values);
-    if !t.ended {
+    let f = levels::first_level(data, mask, values);
+    if f.rows == 0 {
+        grid_counters::clear(counters);
+        return Answer {
+            number: ACCEPTED,
+            levels: 0,
+            faults: f.faults,
+            wrong: f.wrong,
+            right: f.faults - f.wrong,
+            index: 0,
+        };
+    }
+    let mut rowsets = [0u64; LEVELS];
+    let mut columnsets = [0u64; LEVELS];
+    let used = levels::plan(
+        k,
+        data,
+        mask,
+        values,
+        f.rows,
+        f.columns,
+        &mut rowsets,
+        &mut columnsets,
+    );
+    if used > k {
         return refused(UNMASKABLE, 0);
     }
-    // An array in a field is passed by a variable.
-    let taken_rows = t.rows;
-    let taken_columns = t.columns;
+    if (used == 1) & (k <= 3) {
+        grid_counters::pack_one(k, data.len(), columns, f.rows, f.columns, counters);
+        return Answer {
+            number: ACCEPTED,
+            levels: 1,
+            faults: f.faults,
+            wrong: f.wrong,
+            right: f.faults - f.wrong,
+            index: 0,
+        };
+    }
     grid_counters::pack(
         k,
         data.len(),
         columns,
-        t.used,
-        taken_rows,
-        taken_columns,
+        used,
+        &rowsets,
+        &columnsets,
         counters,
     );
-    accepted(t.used, data, mask, values)
+    Answer {
+        number: ACCEPTED,
+        levels: used,
+        faults: f.faults,
+        wrong: f.wrong,
+        right: f.faults - f.wrong,
+        index: 0,
+    }
 }
 
 // Stores the data by counters, whoever made them; or refuses where a stuck cell would then read wrong, and stores nothing.

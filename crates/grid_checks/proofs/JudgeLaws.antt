@@ -7,7 +7,7 @@ use Prim.Native.Nat.{ℕ, _+_, _*_, _%_, _^_, _≤_, _<_}
 use native.Mathlib.Nat.{lt-of-lt-of-le}
 use native.Mathlib.Numerals.{add-one}
 use native.Mathlib.Omega.{arith}
-use borrow.Author.Tests.{le-leb, lt-leb}
+use borrow.Author.Tests.{le-leb, lt-leb, not-true}
 use lib.Bits.{bitOr, or-lt, or-add-and, and-le-l, and-le-r}
 use lib.Dec.{eqb, leb, ltb}
 use lib.ListN.{length, getD}
@@ -50,6 +50,41 @@ pub join-done : (ws : List ℕ) (i all : ℕ) → i ≡ length ws → Joined ws 
 unfolding past
 join-done ws i all e h n = h n ∙ ap (λ k. some k (λ i. leb (2 ^ n) (getD ws i 0))) e
 
+-- the words below i of three lists joined have one exactly if one of them has
+abbrev pub JoinedThree : List ℕ → List ℕ → List ℕ → ℕ → ℕ → Type 0
+JoinedThree xs ys zs i all =
+    (n : ℕ) → leb (2 ^ n) all ≡ some i (λ k. leb (2 ^ n) (getD xs k 0)) || (some i (λ k. leb (2 ^ n) (getD ys k 0)) || some i (λ k. leb (2 ^ n) (getD zs k 0)))
+
+pub three-none : (xs ys zs : List ℕ) → JoinedThree xs ys zs 0 0
+unfolding some
+three-none xs ys zs n = lt-leb (2 ^ n) 0 (pow-pos n)
+
+apart : (a b c x y z : Bool) → (a || b) || (c || (x || (y || z))) ≡ (a || x) || ((b || y) || (c || z))
+apart true b c x y z = refl
+apart false true c true y z = refl
+apart false true c false y z = refl
+apart false false true true y z = refl
+apart false false true false true z = refl
+apart false false true false false z = refl
+apart false false false x y z = refl
+
+pub three-more : (xs ys zs : List ℕ) (i all : ℕ) → JoinedThree xs ys zs i all
+    → JoinedThree xs ys zs (i + 1) (bitOr (bitOr (getD xs i 0) (getD ys i 0)) (bitOr (getD zs i 0) all))
+unfolding some
+three-more xs ys zs i all h n =
+    let a = getD xs i 0 in
+    let b = getD ys i 0 in
+    let c = getD zs i 0 in
+    or-reaches n (bitOr a b) (bitOr c all) ∙ ap₂ _||_ (or-reaches n a b) (or-reaches n c all ∙ ap (λ t. leb (2 ^ n) c || t) (h n))
+    ∙ apart (leb (2 ^ n) a) (leb (2 ^ n) b) (leb (2 ^ n) c) (some i (λ k. leb (2 ^ n) (getD xs k 0))) (some i (λ k. leb (2 ^ n) (getD ys k 0))) (some i (λ k. leb (2 ^ n) (getD zs k 0))) ∙ rw add-one
+
+pub three-done : (xs ys zs : List ℕ) (i all : ℕ) → i ≡ length xs → length ys ≡ length xs → length zs ≡ length xs → JoinedThree xs ys zs i all
+    → (n : ℕ) → leb (2 ^ n) all ≡ past n xs || (past n ys || past n zs)
+unfolding past
+three-done xs ys zs i all e p q h n =
+    let at : (ws : List ℕ) → i ≡ length ws → some i (λ k. leb (2 ^ n) (getD ws k 0)) ≡ past n ws = λ ws d. ap (λ k. some k (λ i. leb (2 ^ n) (getD ws i 0))) d in
+    h n ∙ ap₂ _||_ (at xs e) (ap₂ _||_ (at ys (e ∙ sym p)) (at zs (e ∙ sym q)))
+
 -- where every bit has a column no word has one
 pub past-none : (n : ℕ) (ws : List ℕ) → 64 ≤ n → Below (2 ^ 64) ws → leb 64 n ≡ not (past n ws)
 unfolding past
@@ -58,12 +93,6 @@ past-none n ws l h = le-leb 64 n l ∙ sym (ap not (some-none (length ws) (λ i.
 -- else the words joined are judged
 pub past-judged : (n all : ℕ) (ws : List ℕ) → n < 64 → leb (2 ^ n) all ≡ past n ws → ltb all (1 * 2 ^ n % 2 ^ 64) ≡ not (past n ws)
 past-judged n all ws l h = ap (ltb all) (one-shl n l) ∙ ltb-not all (2 ^ n) ∙ ap not h
-
--- none of three is all of their negations
-pub none-of-three : (a b c : Bool) → not a && (not b && not c) ≡ not (a || (b || c))
-none-of-three true b c = refl
-none-of-three false true c = refl
-none-of-three false false c = refl
 
 -- ---- numbers and lengths
 
@@ -101,3 +130,12 @@ module _ (m n k k′ counters out : ℕ) where
       passes a true true x y h = ap₂ (λ s t. cond (not s) 1 (cond {A = ℕ} t 0 2)) (sym (and-true (a && true) ∙ and-true a)) (and-comm x y)
       passes a true false x y h = clash h refl
       passes a false c x y h = clash h refl
+
+-- of three lists none has a word with a bit past the last column: where every bit has a column, and else by the words joined
+pub three-within : (n : ℕ) (xs ys zs : List ℕ) → 64 ≤ n → Below (2 ^ 64) xs → Below (2 ^ 64) ys → Below (2 ^ 64) zs → leb 64 n ≡ not (past n xs || (past n ys || past n zs))
+three-within n xs ys zs l p q r =
+    let none : (ws : List ℕ) → Below (2 ^ 64) ws → past n ws ≡ false = λ ws h. not-true (past n ws) (sym (past-none n ws l h) ∙ le-leb 64 n l) in
+    le-leb 64 n l ∙ sym (ap not (ap₂ _||_ (none xs p) (ap₂ _||_ (none ys q) (none zs r))))
+
+pub three-judged : (n all : ℕ) (t : Bool) → n < 64 → leb (2 ^ n) all ≡ t → ltb all (1 * 2 ^ n % 2 ^ 64) ≡ not t
+three-judged n all t l h = ap (ltb all) (one-shl n l) ∙ ltb-not all (2 ^ n) ∙ ap not h

@@ -7,6 +7,7 @@ ghost use mathlib.Core.Path.{_≡_};
 ghost use mathlib.Core.Bool.{not, _&&_, _||_};
 ghost use Prim.Native.Nat.{ℕ, _^_};
 ghost use lib.Dec.{leb};
+ghost use lib.ListN.{length};
 ghost use Rattle.grid_promises.specs.Calls.{between, inRange, past};
 ghost use Rattle.grid_checks.specs.Numbers.{judged, readJudged, planJudged, storeJudged, convertJudged};
 
@@ -125,9 +126,24 @@ pub fn within(words: &[u64], columns: usize) -> bool
     columns >= words::BITS || joined(words) < 1 << columns
 }
 
-// None of the three has such a word.
+// The OR of the words of three buffers, in one pass.
+fn joined_three(data: &[u64], mask: &[u64], values: &[u64]) -> u64
+    requires { ⌜ (length (now mask) ≡ length (now «data»)) × (length (now values) ≡ length (now «data»)) ⌝ }
+    ensures { λ r. ⌜ ((n : ℕ) → leb (2 ^ n) r ≡ (past n (now («data» .entry)) || (past n (now (mask .entry)) || past n (now (values .entry))))) ⌝ }
+{
+    let mut all = 0;
+    let mut i = 0;
+    while i < data.len() {
+        all = (data[i] | mask[i]) | (values[i] | all);
+        i += 1;
+    }
+    all
+}
+
+// None of the three, which are as long, has such a word.
 pub fn all_within(data: &[u64], mask: &[u64], values: &[u64], columns: usize) -> bool
+    requires { ⌜ (length (now mask) ≡ length (now «data»)) × (length (now values) ≡ length (now «data»)) ⌝ }
     ensures { λ r. ⌜ r ≡ not (past columns (now («data» .entry)) || (past columns (now (mask .entry)) || past columns (now (values .entry)))) ⌝ }
 {
-    within(data, columns) & (within(mask, columns) & within(values, columns))
+    columns >= words::BITS || joined_three(data, mask, values) < 1 << columns
 }

@@ -1,26 +1,27 @@
 -- What a code proof cites at each return: from the tests' values there to the whole promise. Assumes nothing.
-use Prim.Native.Nat.{ℕ, _+_, _^_, _<_, _≤_}
-use mathlib.Core.Path.{_≡_, refl, sym, _∙_}
+use Prim.Native.Nat.{ℕ, _+_, _*_, _/_, _%_, _^_, _<_, _≤_}
+use mathlib.Core.Path.{_≡_, refl, sym, ap, ap₂, _∙_}
 use mathlib.Core.Bool.{Bool, true, false, not, cond, _&&_}
-use mathlib.Core.List.{List}
+use mathlib.Core.List.{List, _++_}
 use mathlib.Core.Logic.{_≢_, ⊎-elim}
 use native.Mathlib.Nat.{mod-lt, lt-of-lt-of-le}
 use native.Mathlib.Omega.{arith}
 use borrow.Author.Tests.{leb-true, ltb-true, eqb-true, eq-eqb, le-leb, lt-ltb, le-ltb, ltb-false}
 use lib.Dec.{eqb, leb, ltb}
-use lib.ListN.{length, getD, replicate}
+use lib.ListN.{length, getD, replicate, length-append}
 use lib.Pow.{pow-pos, pow-mono}
-use Rattle.bits.specs.Bits.{has, number, Below}
-use Rattle.bits.proofs.TestLaws.{clash, and-in, and-left, and-right, lt-or-le}
-use Rattle.bits.proofs.BoundLaws.{some-none, none-below, sum-num-le}
-use Rattle.rdis.specs.Packing.{width, bytesFor, inOrder, counter, rowCounter, columnCounter, spareClear, above, firstAbove}
-use Rattle.rdis.proofs.PackingLaws.{in-order-below}
+use Rattle.bits.specs.Bits.{num, sum, list, has, word, words, number, bytes, Below}
+use Rattle.bits.proofs.TestLaws.{clash, num-lt, and-in, and-left, and-right, lt-or-le}
+use Rattle.bits.proofs.BoundLaws.{some-none, none-below, sum-num-le, length-list, list-ext}
+use Rattle.bits.proofs.BitLaws.{has-zero, is-word}
+use Rattle.rdis.specs.Packing.{width, bytesFor, inOrder, packed, counter, rowCounter, columnCounter, spareClear, above, firstAbove}
+use Rattle.rdis.proofs.PackingLaws.{in-order-below, packed-bits}
 use Rattle.grid_sets.specs.Sets.{setsOf, times, someLine, firstLine}
 use Rattle.grid_sets.proofs.SetLaws.{some-line, first-line}
-use Rattle.grid_counters.proofs.PackLaws.{bits-few}
+use Rattle.grid_counters.proofs.PackLaws.{width-some, bits-few}
 use Rattle.grid_counters.specs.declared.judge.Judged.{Judged}
 use Rattle.grid_counters.specs.Steps.{Judges}
-use Rattle.grid_counters.specs.Promises.{fit, roomy, unpackNumber, Unpack, packable}
+use Rattle.grid_counters.specs.Promises.{fit, roomy, unpackNumber, Unpack, packable, Pack}
 
 -- ---- lengths
 
@@ -172,3 +173,53 @@ times-few sets n i = sum-num-le n (λ m. has (getD sets m 0) i)
 pub counters-fit : (k m n used : ℕ) (rows columns : List ℕ) → used < 2 ^ width k → Below (2 ^ width k) (inOrder m n (times rows used) (times columns used))
 counters-fit k m n used rows columns h =
     in-order-below m n (times rows used) (times columns used) (2 ^ width k) (pow-pos (width k)) (λ i _. omega (arith, times-few rows used i)) (λ j _. omega (arith, times-few columns used j))
+
+-- ---- the bytes of counters that are all 0
+
+zeros-packed : (w m : ℕ) (cs : List ℕ) → 0 < w → ((t : ℕ) → getD cs t 0 ≡ 0) → m ≡ bytesFor w (length cs) → list m (λ _. 0) ≡ packed w cs
+unfolding bytes words
+zeros-packed w m cs z h e =
+    let f : ℕ → Bool = λ p. has (getD cs (p / w) 0) (p % w) in
+    let none : (p : ℕ) → f p ≡ false = λ p. ap (λ y. has y (p % w)) (h (p / w)) ∙ has-zero (p % w) in
+    list-ext m (λ _. 0) (λ i. word 8 (λ k. f (8 * i + k))) (λ i _. is-word 8 0 (λ k. f (8 * i + k)) (pow-pos 8) (λ k _. has-zero k ∙ sym (none (8 * i + k))))
+    ∙ ap (λ x. list x (λ i. word 8 (λ k. f (8 * i + k)))) e ∙ sym (packed-bits w cs z (λ i. rw (h i) (pow-pos w)))
+
+pub cleared : (k m n : ℕ) (rows columns before after : List ℕ) → packable k m n 0 (length before) ≡ true → after ≡ list (length before) (λ _. 0) → Pack k m n 0 rows columns before after
+unfolding times sum
+cleared k m n rows columns before after h e =
+    let r = times rows 0 in
+    let c = times columns 0 in
+    let size : length (inOrder m n r c) ≡ m + n = length-append (list m r) (list n c) ∙ ap₂ _+_ (length-list m r) (length-list n c) in
+    let below : Below 1 (inOrder m n r c) = in-order-below m n r c 1 (omega arith) (λ i _. omega arith) (λ j _. omega arith) in
+    let room = packs k m n 0 (length before) h .1 .size in
+    record {
+      bytes = λ _. e ∙ zeros-packed (width k) (length before) (inOrder m n r c) (width-some k) (λ t. let l = below t in omega arith) (room ∙ ap (bytesFor (width k)) (sym size));
+      untouched = λ q. clash h q;
+    }
+
+-- ---- the bytes of counters that are 0 or 1
+
+two-bits : (b : Bool) → cond {A = ℕ} b 1 2 ≤ 2
+two-bits true = omega arith
+two-bits false = omega arith
+
+pub narrow-width : (k : ℕ) → k ≤ 3 → width k ≤ 2
+unfolding width
+narrow-width k l = rw (le-leb k 3 l) (two-bits (leb k 1))
+
+pub ones-fit : (k m n x y : ℕ) → 1 < 2 ^ width k → Below (2 ^ width k) (inOrder m n (λ i. num (has x i)) (λ j. num (has y j)))
+ones-fit k m n x y h =
+    in-order-below m n (λ i. num (has x i)) (λ j. num (has y j)) (2 ^ width k) (pow-pos (width k)) (λ i _. omega (arith, num-lt (has x i))) (λ j _. omega (arith, num-lt (has y j)))
+
+one-time : (sets : List ℕ) (x : ℕ) → getD sets 0 0 ≡ x → (i : ℕ) → num (has x i) ≡ times sets 1 i
+unfolding times sum
+one-time sets x e i = ap (λ y. num (has y i)) (sym e) ∙ omega arith
+
+pub packed-one : (k m n x y : ℕ) (rows columns before after : List ℕ) → getD rows 0 0 ≡ x → getD columns 0 0 ≡ y → packable k m n 1 (length before) ≡ true
+    → after ≡ packed (width k) (inOrder m n (λ i. num (has x i)) (λ j. num (has y j))) → Pack k m n 1 rows columns before after
+packed-one k m n x y rows columns before after p q h e = record {
+  bytes = λ _.
+      e
+      ∙ ap (packed (width k)) (ap₂ _++_ (list-ext m (λ i. num (has x i)) (times rows 1) (λ i _. one-time rows x p i)) (list-ext n (λ j. num (has y j)) (times columns 1) (λ j _. one-time columns y q j)));
+  untouched = λ z. clash h z;
+}

@@ -12,9 +12,10 @@ use grid_sets::LINES;
 use refusals::WRONG_LENGTH;
 ghost use mathlib.Core.Path.{_≡_};
 ghost use mathlib.Core.Bool.{true, cond};
-ghost use Prim.Native.Nat.{_+_, _≤_, _<_};
+ghost use Prim.Native.Nat.{_+_, _^_, _≤_, _<_};
 ghost use lib.Dec.{leb};
 ghost use lib.ListN.{length};
+ghost use Rattle.bits.specs.Bits.{num, list, has};
 ghost use Rattle.rdis.specs.Packing.{width as widthOf, bytesFor, inOrder, packed};
 ghost use Rattle.grid_sets.specs.Sets.{times};
 ghost use Rattle.grid_counters.specs.Promises.{fit, roomy as isRoomy, packable as isPackable, Unpack, Pack};
@@ -120,23 +121,47 @@ pub fn pack(
     rows: usize,
     columns: usize,
     used: usize,
-    rowsets: [u64; LEVELS],
-    columnsets: [u64; LEVELS],
+    rowsets: &[u64; LEVELS],
+    columnsets: &[u64; LEVELS],
     out: &mut [u8],
 )
-    ensures { λ _. ⌜ Pack k rows columns used rowsets columnsets (now (out .entry)) (now (out .exit)) ⌝ }
+    ensures { λ _. ⌜ Pack k rows columns used (now (rowsets .entry)) (now (columnsets .entry)) (now (out .entry)) (now (out .exit)) ⌝ }
 {
     if !packable(k, rows, columns, used, out.len()) {
         return;
     }
     let width = packing::width(k);
     if width == 3 {
-        pack_threes(rows, columns, used, &rowsets, &columnsets, out);
+        pack_threes(rows, columns, used, rowsets, columnsets, out);
         return;
     }
-    let r = tally::tally(&rowsets, used, rows);
-    let c = tally::tally(&columnsets, used, columns);
+    let r = tally::tally(rowsets, used, rows);
+    let c = tally::tally(columnsets, used, columns);
     fill::fill(out, width, tally::first(r, c, rows), tally::second(c, rows));
+}
+
+// Writes the counters of one level, of one or two bits: those of the lines that it took are 1.
+pub fn pack_one(k: usize, rows: usize, columns: usize, taken: u64, across: u64, out: &mut [u8])
+    requires { ⌜ (isPackable k rows columns 1 (length (now out)) ≡ true) × (k ≤ 3) × (taken < 2 ^ rows) × (across < 2 ^ columns) ⌝ }
+    ensures { λ _. ⌜ now (out .exit) ≡ packed (widthOf k) (inOrder rows columns (λ i. num (has taken i)) (λ j. num (has across j))) ⌝ }
+{
+    fill::fill_singles(
+        out,
+        packing::width(k),
+        tally::front(taken, across, rows),
+        tally::back(across, rows),
+    );
+}
+
+// Writes the counters of no level.
+pub fn clear(out: &mut [u8])
+    ensures { λ _. ⌜ now (out .exit) ≡ list (length (now (out .entry))) (λ _. 0) ⌝ }
+{
+    let mut i = 0;
+    while i < out.len() {
+        out[i] = 0;
+        i += 1;
+    }
 }
 
 // Those of three bits.

@@ -1,8 +1,6 @@
-use mathlib.Core.Path.{ap₂, _∙_}
-use mathlib.Core.Bool.{_&&_}
+use native.Mathlib.Omega.{arith}
 use borrow.Author.Needs.{needs}
-use Rattle.grid_promises.specs.Calls.{past}
-use Rattle.grid_checks.proofs.JudgeLaws.{none-of-three}
+use Rattle.grid_checks.proofs.JudgeLaws.{three-within, three-judged}
 use Rattle.grid_checks.proofs.all_within.Statement.{statement}
 use Rattle.grid_checks.proofs.all_within.Tie as tie
 
@@ -10,10 +8,16 @@ pub all-within-spec : {M : Type 1} → statement M
 all-within-spec =
     tie.close
     (tie.spec
+    -- joined-three-requires
     (λ c κs. search needs)
-    (λ c κs. search needs)
-    (λ c κs. search needs)
+    -- shl-result
+    (λ c. search needs)
+    -- returns
     (λ c.
-    let a = c .before .before .before .before .before .before .args in
-    ap₂ _&&_ (c .before .before .within .ensures) (ap₂ _&&_ (c .before .within2 .ensures) (c .within3 .ensures))
-    ∙ none-of-three (past (a .columns) (a .«data» .now)) (past (a .columns) (a .mask .now)) (past (a .columns) (a .values .now))))
+    let a = c .before .before .before .before .args in
+    three-within (a .columns) (a .«data» .now) (a .mask .now) (a .values .now) (c .if1 .taken)
+    (λ i. c .before .before .before .shared-slice-known .given i .fits) (λ i. c .before .before .shared-slice-known2 .given i .fits) (λ i. c .before .shared-slice-known3 .given i .fits))
+    -- returns-2
+    (λ c.
+    let a = c .before .before .before .before .before .args in
+    three-judged (a .columns) (c .joined-three .result) _ (omega arith) (c .joined-three .ensures (a .columns))))

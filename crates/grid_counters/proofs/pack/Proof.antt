@@ -47,7 +47,7 @@ pack-spec =
     (λ c κs. search needs)
     -- pack-threes-requires
     (λ c κs.
-    let t = c .before .before .before in
+    let t = c .before in
     let e = t .before .before in
     let r = room e in
     let a = begin e .args in
@@ -57,26 +57,26 @@ pack-spec =
     -- returns-2
     (λ c.
     let p = c .before .before in
-    let t = p .before .before .before .before in
+    let t = p .before .before in
     let e = t .before .before in
     let a = begin e .args in
     record {
-      bytes = λ _. p .pack-threes .ensures ∙ ap (λ w. packed w (inOrder (a .rows) (a .columns) (times (a .t5) (a .used)) (times (a .t6) (a .used)))) (sym (wide t));
+      bytes = λ _. p .pack-threes .ensures ∙ ap (λ w. packed w (inOrder (a .rows) (a .columns) (times (a .rowsets .now) (a .used)) (times (a .columnsets .now) (a .used)))) (sym (wide t));
       untouched = λ h. clash (can e) h;
     })
     -- tally-requires, tally-requires-2
-    (λ c κs. let r = room (c .before .before .before) in (levels-few _ _ (r .0), r .1 .rows)) (λ c κs. let r = room (c .before .before .before .before .before) in (levels-few _ _ (r .0), r .1 .columns))
+    (λ c κs. let r = room (c .before .before) in (levels-few _ _ (r .0), r .1 .rows)) (λ c κs. let r = room (c .before .before .before) in (levels-few _ _ (r .0), r .1 .columns))
     -- first-requires, second-requires
-    (λ c κs. room (c .before .before .before .before .before .before .before) .1 .rows) (λ c κs. room (c .before .before .before .before .before .before .before .before) .1 .rows)
+    (λ c κs. room (c .before .before .before .before .before) .1 .rows) (λ c κs. room (c .before .before .before .before .before .before) .1 .rows)
     -- fill-requires
-    (λ c κs. narrow (c .before .before .before .before .before .before .before))
+    (λ c κs. narrow (c .before .before .before .before .before))
     -- same-length-2
     (λ c. search needs)
     -- returns-3
     (λ c.
     let d = c .before .before in
     let k = d .before .before .before .before in
-    let t = k .before .before .before .before in
+    let t = k .before .before in
     let w = t .before in
     let e = w .before in
     let r = room e in
@@ -84,9 +84,9 @@ pack-spec =
     let long : length (d .fill .last .0) ≡ length (a .out .now) = omega (arith, c .before .out2 .given) in
     record {
       bytes = λ _.
-          all-packed (a .rows) (a .columns) (times (a .t5) (a .used)) (times (a .t6) (a .used)) (r .1 .rows) (r .1 .columns) (width (a .k)) (width-some (a .k))
-          (counters-fit (a .k) (a .rows) (a .columns) (a .used) (a .t5) (a .t6) (r .0)) (k .before .before .tally .result) (k .tally2 .result) (d .before .before .first .result)
-          (d .before .second .result) (k .before .before .tally .ensures) (k .tally2 .ensures) (d .before .before .first .ensures) (d .before .second .ensures)
+          all-packed (a .rows) (a .columns) (times (a .rowsets .now) (a .used)) (times (a .columnsets .now) (a .used)) (r .1 .rows) (r .1 .columns) (width (a .k)) (width-some (a .k))
+          (counters-fit (a .k) (a .rows) (a .columns) (a .used) (a .rowsets .now) (a .columnsets .now) (r .0)) (k .before .tally .result) (k .tally2 .result) (d .before .before .first .result)
+          (d .before .second .result) (k .before .tally .ensures) (k .tally2 .ensures) (d .before .before .first .ensures) (d .before .second .ensures)
           (d .fill .last .0) (long ∙ r .1 .size) (w .width .result) (w .width .ensures) (d .fill .ensures);
       untouched = λ h. clash (can e) h;
     }))
