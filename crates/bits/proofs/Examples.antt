@@ -6,7 +6,7 @@ use Prim.Native.Nat.{_*_, _^_}
 use lib.Dec.{eqb, ltb}
 use mathlib.Core.Logic.{inl, inr}
 use native.Mathlib.Omega.{arith}
-use Rattle.bits.specs.First.{_when_, First}
+use Rattle.bits.specs.First.{_when_, First, rising}
 use Rattle.bits.proofs.FirstLaws.{hit, miss}
 use Rattle.bits.specs.Bits.{some, first, sum, list, has, word, words, at, bytes, number, digits}
 
@@ -62,3 +62,8 @@ number-of-digits = (refl, refl, refl)
 -- of lines in the order 9, 2, 8, of which the last two apply, 2 is the first; in the order 9, 8, 2 it is not, though it is lower; where none applies, 0
 first-of-lines : First ((9 when ⊥) ∷ (2 when Unit {0}) ∷ (8 when Unit {0}) ∷ []) 2 × (First ((9 when ⊥) ∷ (8 when Unit {0}) ∷ (2 when Unit {0}) ∷ []) 2 → ⊥) × First ((9 when ⊥) ∷ []) 0
 first-of-lines = (record { found = inr (λ h. h, inl (tt, refl)) }, λ r. omega (arith, hit (miss r (λ h. h)) tt), record { found = inr (λ h. h, refl) })
+
+-- numbers rise from above 0, and none is as great as the one before
+rising-lines : (rising 0 ((1 when ⊥) ∷ (2 when ⊥) ∷ (9 when ⊥) ∷ []) ≡ true) × (rising 0 ((1 when ⊥) ∷ (9 when ⊥) ∷ (2 when ⊥) ∷ []) ≡ false)
+    × (rising 0 ((2 when ⊥) ∷ (2 when ⊥) ∷ []) ≡ false) × (rising 0 ((0 when ⊥) ∷ []) ≡ false)
+rising-lines = (refl, refl, refl, refl)

@@ -5,4 +5,5 @@ pub mod BoundLaws
 pub mod BitLaws
 pub mod ByteLaws
 pub mod DigitLaws
+pub mod Claims
 mod Examples

@@ -1,8 +1,12 @@
--- The answer of a call whose refusals have an order that their numbers do not give: a list of lines, and the first of it that applies. Assumes nothing.
+-- The answer of a call that may be refused for several reasons: a list of lines, and the first of it that applies. An order that the numbers do not give is
+-- said so too. Assumes nothing.
 use Prim.Native.Nat.{ℕ}
 use mathlib.Core.Path.{_≡_}
+use mathlib.Core.Bool.{Bool, true, _&&_}
 use mathlib.Core.List.{List, [], _∷_}
-use mathlib.Core.Logic.{_⊎_}
+use mathlib.Core.Logic.{_↔_, _⊎_}
+use lib.Dec.{ltb}
+use Rattle.bits.specs.Lowest.{Lowest}
 
 -- a line: a number, and when it applies
 pub data Refusal : Type 1 where
@@ -16,3 +20,19 @@ Found ((o when P) ∷ rs) x = (P × (x ≡ o)) ⊎ ((P → ⊥) × Found rs x)
 
 pub record First (rs : List Refusal) (x : ℕ) : Type 0 where
   pub found : Found rs x
+
+-- ---- where the numbers rise
+
+-- a line with the number y applies
+abbrev pub Applies : List Refusal → ℕ → Type 0
+Applies [] y = ⊥
+Applies ((o when P) ∷ rs) y = (P × (y ≡ o)) ⊎ Applies rs y
+
+-- the numbers rise, the first of them from above b
+abbrev pub rising : ℕ → List Refusal → Bool
+rising b [] = true
+rising b ((o when P) ∷ rs) = ltb b o && rising o rs
+
+-- the first line that applies is then the lowest number that does, and the lowest is the first
+abbrev pub RisingLowest : Type 1
+RisingLowest = (rs : List Refusal) (x : ℕ) → rising 0 rs ≡ true → First rs x ↔ Lowest (Applies rs) x

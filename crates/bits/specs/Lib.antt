@@ -2,3 +2,4 @@ pub mod Bits
 pub mod Lowest
 pub mod First
 pub mod Ends
+pub mod Claims
