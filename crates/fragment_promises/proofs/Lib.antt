@@ -6,3 +6,4 @@ pub mod FinishLaws
 pub mod SequenceLaws
 pub mod CuttingLaws
 pub mod Examples
+pub mod Claims

@@ -8,7 +8,7 @@ use lib.ListN.{length, getD, length-replicate}
 use lib.Seq.{ext-getD}
 use Rattle.bits.specs.First.{_when_, First}
 use Rattle.bits.proofs.TestLaws.{lt-or-le, true-or-false, iff-false}
-use Rattle.bits.proofs.FirstLaws.{hit, miss, missed, first-one}
+use Rattle.bits.proofs.FirstLaws.{hit, miss, missed, first-one, rising-lowest}
 use Rattle.bits.proofs.ByteLaws.{getD-zeros}
 use Rattle.grid_promises.specs.Calls.{inRange}
 use Rattle.grid_promises.proofs.RefusalLaws.{in-range}
@@ -16,7 +16,7 @@ use Rattle.fragment_promises.specs.declared.Transfer.{Transfer}
 use Rattle.fragment_promises.specs.declared.Step.{Step}
 use Rattle.fragment_promises.specs.Transfers.{sizeOf, standing, standingOf, started, extended, noted, lumped, stepTo}
 use Rattle.fragment_promises.specs.Demands.{Told, Good, LumpDemands}
-use Rattle.fragment_promises.specs.Promises.{Start, Lump, OneStart, OneLump, OneStartByDemands, OneLumpByDemands}
+use Rattle.fragment_promises.specs.Promises.{Start, Lump, OneStart, OneLump, OneStartByDemands, OneLumpByDemands, StartLowest, LumpLowest}
 use Rattle.fragment_promises.proofs.PutLaws.{by-place, length-put, put-inside, put-before, put-after}
 use Rattle.fragment_promises.proofs.StandingLaws.{size-most, stands, stands-long, stands-well, well-good, well-size, by-lump}
 
@@ -195,3 +195,11 @@ one-lump t bs s s′ e f = e .exactly ∙ sym (f .exactly)
 
 pub one-lump-by-demands : OneLumpByDemands
 one-lump-by-demands = one-lump-is
+
+-- ---- the lowest number that applies
+
+pub start-lowest : StartLowest
+start-lowest m n k s d = rising-lowest _ (s .number) refl .0 (d .first)
+
+pub lump-lowest : LumpLowest
+lump-lowest t bs s d = rising-lowest _ (s .number) refl .0 (d .first)

@@ -29,8 +29,11 @@ Good t = InRange (t .rows) (t .columns) (t .k)
 
 -- ---- a start
 
+abbrev pub startRefusals : ℕ → ℕ → ℕ → List Refusal
+startRefusals m n k = (1 when (InRange m n k → ⊥)) ∷ []
+
 pub record StartDemands (m n k : ℕ) (s : Step) : Type 0 where
-  pub first : First ((1 when (InRange m n k → ⊥)) ∷ []) (s .number)
+  pub first : First (startRefusals m n k) (s .number)
   pub told : Told m n k (s .transfer)
   -- no byte was taken
   pub none : s .transfer .taken ≡ 0
@@ -40,9 +43,12 @@ pub record StartDemands (m n k : ℕ) (s : Step) : Type 0 where
 
 -- ---- a lump of these bytes, lent any record t
 
+-- 9 where the bytes taken, with the `more` of this lump, are more than the block has
+abbrev pub lumpRefusals : Transfer → ℕ → List Refusal
+lumpRefusals t more = (1 when (Good t → ⊥)) ∷ (9 when (sizeOf t < t .taken + more)) ∷ []
+
 pub record LumpDemands (t : Transfer) (bs : List ℕ) (s : Step) : Type 0 where
-  -- 9 where the bytes taken, with those of this lump, are more than the block has
-  pub first : First ((1 when (Good t → ⊥)) ∷ (9 when (sizeOf t < t .taken + length bs)) ∷ []) (s .number)
+  pub first : First (lumpRefusals t (length bs)) (s .number)
   -- what the start was told stays, and so does the room
   pub told : Told (t .rows) (t .columns) (t .k) (s .transfer)
   pub room : length (s .transfer .bytes) ≡ length (t .bytes)

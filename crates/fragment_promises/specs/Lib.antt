@@ -2,3 +2,4 @@ pub mod Transfers
 pub mod Demands
 pub mod Promises
 pub mod Sequences
+pub mod Claims

@@ -3,6 +3,8 @@ use Prim.Native.Nat.{ℕ, _+_, _<_, _≤_}
 use mathlib.Core.Path.{_≡_}
 use mathlib.Core.List.{List}
 use lib.ListN.{length}
+use Rattle.bits.specs.Lowest.{Lowest}
+use Rattle.bits.specs.First.{Applies}
 use Rattle.bits.specs.Ends.{One, Measured}
 use Rattle.rdis.specs.Cells.{reading}
 use Rattle.rdis.specs.Packing.{width, rowCounter, columnCounter}
@@ -13,7 +15,7 @@ use Rattle.grid_promises.specs.declared.ReadAnswer.{ReadAnswer}
 use Rattle.fragment_promises.specs.declared.Transfer.{Transfer}
 use Rattle.fragment_promises.specs.declared.Step.{Step}
 use Rattle.fragment_promises.specs.Transfers.{size, started, lumped, stepTo, held, countersOf, cellsOf, finishNumber}
-use Rattle.fragment_promises.specs.Demands.{StartDemands, LumpDemands, FinishDemands}
+use Rattle.fragment_promises.specs.Demands.{startRefusals, lumpRefusals, StartDemands, LumpDemands, FinishDemands}
 
 -- ---- a start with these numbers
 
@@ -74,6 +76,14 @@ OneLumpByDemands = (t : Transfer) (bs : List ℕ) (s s′ : Step) → LumpDemand
 
 abbrev pub OneFinishByDemands : Type 0
 OneFinishByDemands = (m n k taken : ℕ) (bs out : List ℕ) → One (FinishDemands m n k taken bs out)
+
+-- ---- the lowest number that applies is the answer of a start and of a lump; a finish has an order of its own
+
+abbrev pub StartLowest : Type 0
+StartLowest = (m n k : ℕ) (s : Step) → StartDemands m n k s → Lowest (Applies (startRefusals m n k)) (s .number)
+
+abbrev pub LumpLowest : Type 0
+LumpLowest = (t : Transfer) (bs : List ℕ) (s : Step) → LumpDemands t bs s → Lowest (Applies (lumpRefusals t (length bs))) (s .number)
 
 -- ---- what does not count
 

@@ -29,7 +29,7 @@ fn counter_bytes(rows: usize, columns: usize, k: usize) -> usize
     requires { ⌜ InRange rows columns k ⌝ }
     ensures { λ r. ⌜ r ≡ counterBytes rows columns k ⌝ }
 {
-    grid_counters::bytes_of(k, rows + columns)
+    grid_sizes::bytes_of(k, rows + columns)
 }
 
 // The length of a block in bytes.
@@ -44,7 +44,7 @@ fn size(rows: usize, columns: usize, k: usize) -> usize
 fn standing(rows: usize, columns: usize, k: usize, taken: usize) -> usize
     ensures { λ r. ⌜ r ≡ standingIs rows columns k taken ⌝ }
 {
-    if !grid_checks::in_range(rows, columns, k) {
+    if !grid_sizes::in_range(rows, columns, k) {
         return OUT_OF_RANGE;
     }
     if taken > size(rows, columns, k) {

@@ -8,9 +8,9 @@ use lib.ListN.{length}
 use Rattle.bits.specs.Bits.{Below}
 use Rattle.bits.proofs.TestLaws.{and-in}
 use Rattle.rdis.proofs.PackingLaws.{width-holds}
-use Rattle.grid_counters.specs.Promises as bytewise
-use Rattle.grid_counters.specs.declared.conversion.Converted.{Converted}
-use Rattle.grid_counters.proofs.PromiseLaws.{is-roomy, can-pack}
+use Rattle.grid_sets.specs.Promises as bytewise
+use Rattle.grid_sets.specs.declared.Converted.{Converted}
+use Rattle.grid_sets.proofs.RoomLaws.{is-roomy, can-pack}
 use Rattle.grid_promises.specs.Conversion.{convertInRange, convertSized, convertNumber, ConvertInRange, ConvertLengths, Convert}
 use Rattle.grid_promises.proofs.ConvertLaws.{convert-in-range, convert-sized}
 use Rattle.grid_promises.proofs.ConvertDemands.{convert-demands}

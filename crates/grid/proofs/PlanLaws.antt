@@ -12,8 +12,9 @@ use Rattle.rdis.specs.Levels.{Outcome, masked, unmaskable, plan}
 use Rattle.rdis.specs.Packing.{width, inOrder, packed}
 use Rattle.rdis.proofs.PackingLaws.{width-holds}
 use Rattle.grid_sets.specs.Sets.{times}
-use Rattle.grid_counters.specs.Promises.{packable, Pack}
-use Rattle.grid_counters.proofs.PromiseLaws.{can-pack, cleared, packed-one}
+use Rattle.grid_sets.specs.Promises.{packable, Pack}
+use Rattle.grid_sets.proofs.RoomLaws.{can-pack}
+use Rattle.grid_counters.proofs.PromiseLaws.{cleared, packed-one}
 use Rattle.grid_promises.specs.Calls.{inRange, block, planSized, planPast, planNumber}
 use Rattle.grid_promises.specs.Refusals.{PlanLengths}
 use Rattle.grid_promises.specs.Promises.{Plan}

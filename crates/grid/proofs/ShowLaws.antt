@@ -15,9 +15,9 @@ use Rattle.rdis.specs.Cells.{flips, reading}
 use Rattle.rdis.specs.Packing.{width, counter, rowCounter, columnCounter, above, spareClear}
 use Rattle.grid_sets.specs.Sets.{odd, filled}
 use Rattle.grid_sets.proofs.SetLaws.{odd-flips, odd-past, filled-most}
-use Rattle.grid_counters.specs.Promises.{roomy, unpackNumber, Unpack}
-use Rattle.grid_counters.specs.declared.Counters.{Counters}
-use Rattle.grid_counters.proofs.PromiseLaws.{is-roomy, accepts, none-above-k}
+use Rattle.grid_sets.specs.Promises.{roomy, unpackNumber, Unpack}
+use Rattle.grid_sets.specs.declared.Counters.{Counters}
+use Rattle.grid_sets.proofs.RoomLaws.{is-roomy, accepts, none-above-k}
 use Rattle.grid_promises.specs.Calls.{inRange, past, readSized, readNumber, badIndex}
 use Rattle.grid_promises.specs.Refusals.{InRange, ReadLengths}
 use Rattle.grid_promises.proofs.RefusalLaws.{in-range, read-sized, within}

@@ -17,7 +17,7 @@ use Rattle.rdis.specs.Block.{Block, bit, stuck}
 use Rattle.rdis.specs.Cells.{flips, reading, misread, misreads}
 use Rattle.rdis.specs.Packing.{width, rowCounter, columnCounter, above, spareClear}
 use Rattle.rdis.proofs.CellLaws.{length-reading, stored-inverted}
-use Rattle.grid_counters.proofs.PromiseLaws.{accepts}
+use Rattle.grid_sets.proofs.RoomLaws.{accepts}
 use Rattle.grid_promises.specs.Calls.{inRange, past, readNumber, block, planPast, storeSized, storeNumber, badIndex}
 use Rattle.grid_promises.specs.Refusals.{StoreLengths}
 use Rattle.grid_promises.specs.Promises.{Store}

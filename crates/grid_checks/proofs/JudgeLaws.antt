@@ -20,7 +20,7 @@ use Rattle.rdis.specs.Packing.{width, bytesFor}
 use Rattle.grid_promises.specs.Calls.{inRange, countersSized, past}
 use Rattle.grid_promises.specs.Conversion.{convertInRange, convertSized}
 use Rattle.grid_promises.proofs.RefusalLaws.{in-range}
-use Rattle.grid_counters.specs.Promises.{fit}
+use Rattle.grid_sets.specs.Promises.{fit}
 use Rattle.grid_checks.specs.Numbers.{judged, convertJudged}
 
 -- ---- a word with a bit past the last column

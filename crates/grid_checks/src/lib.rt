@@ -1,5 +1,4 @@
 // What is judged before a block is worked on: numbers, lengths, and bits past the last column. Each function answers for every argument.
-use grid_sets::LINES;
 use refusals::ACCEPTED;
 use refusals::OUT_OF_RANGE;
 use refusals::WRONG_LENGTH;
@@ -8,33 +7,17 @@ ghost use mathlib.Core.Bool.{not, _&&_, _||_};
 ghost use Prim.Native.Nat.{ℕ, _^_};
 ghost use lib.Dec.{leb};
 ghost use lib.ListN.{length};
-ghost use Rattle.grid_promises.specs.Calls.{between, inRange, past};
+ghost use Rattle.grid_promises.specs.Calls.{past};
 ghost use Rattle.grid_checks.specs.Numbers.{judged, readJudged, planJudged, storeJudged, convertJudged};
-
-// The largest K.
-const MOST_LEVELS: usize = 7;
-
-fn is_between(first: usize, last: usize, x: usize) -> bool
-    ensures { λ r. ⌜ r ≡ between first last x ⌝ }
-{
-    first <= x && x <= last
-}
-
-// The rows, the columns and K lie in their ranges.
-pub fn in_range(rows: usize, columns: usize, k: usize) -> bool
-    ensures { λ r. ⌜ r ≡ inRange rows columns k ⌝ }
-{
-    is_between(1, LINES, rows) & (is_between(1, LINES, columns) & is_between(1, MOST_LEVELS, k))
-}
 
 // The refusal of numbers and lengths, 1 or 2, or else 0. `words` says whether every buffer of words has as many as there are rows.
 fn number(rows: usize, columns: usize, k: usize, counters: usize, words: bool) -> usize
     ensures { λ r. ⌜ r ≡ judged rows columns k counters words ⌝ }
 {
-    if !in_range(rows, columns, k) {
+    if !grid_sizes::in_range(rows, columns, k) {
         return OUT_OF_RANGE;
     }
-    if words & grid_counters::fits(k, rows + columns, counters) {
+    if words & grid_sizes::fits(k, rows + columns, counters) {
         ACCEPTED
     } else {
         WRONG_LENGTH
@@ -99,10 +82,10 @@ pub fn convert_number(
 ) -> usize
     ensures { λ r. ⌜ r ≡ convertJudged rows columns k to counters out ⌝ }
 {
-    if !(in_range(rows, columns, to) & (k <= to)) {
+    if !(grid_sizes::in_range(rows, columns, to) & (k <= to)) {
         return OUT_OF_RANGE;
     }
-    let room = grid_counters::fits(to, rows + columns, out);
+    let room = grid_sizes::fits(to, rows + columns, out);
     number(rows, columns, k, counters, room)
 }
 

@@ -21,11 +21,11 @@ use Rattle.grid_sets.proofs.SetLaws.{some-line, first-line}
 use Rattle.grid_counters.specs.declared.threes.Threes.{Threes}
 use Rattle.grid_counters.specs.declared.judge.Judged.{Judged}
 use Rattle.grid_counters.specs.Steps.{AreThrees, Judges, FillsPlanes}
-use Rattle.grid_counters.specs.Promises.{roomy, convertible, convertNumber, Convert}
-use Rattle.grid_counters.proofs.PackLaws.{width-some}
+use Rattle.grid_sets.specs.Promises.{roomy, convertible, convertNumber, Convert}
+use Rattle.rdis.proofs.PackingLaws.{width-some}
 use Rattle.grid_counters.proofs.FillLaws.{stored-packed}
 use Rattle.grid_counters.proofs.JudgeLaws.{none-above, one-above}
-use Rattle.grid_counters.proofs.PromiseLaws.{Room, has-room, packs, accepts, none-above-k}
+use Rattle.grid_sets.proofs.RoomLaws.{Room, has-room, packs, accepts, none-above-k}
 
 -- ---- the judgement
 

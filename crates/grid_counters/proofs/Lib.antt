@@ -11,4 +11,3 @@ pub mod ThreeFillLaws
 pub mod JudgeLaws
 pub mod PromiseLaws
 pub mod ConvertLaws
-pub mod Demands

@@ -19,25 +19,6 @@ use Rattle.rdis.specs.Packing.{width, bytesFor, spareClear}
 pub small : (w t : ℕ) → w ≤ 8 → t ≤ 128 → w * t ≤ 1024
 small w t h k = mul-le-mul h k
 
--- ---- widths
-
-width-by : (a b : Bool) → let w : ℕ = cond a 1 (cond b 2 3) in (1 ≤ w) × (w ≤ 3) × (2 ^ w ≤ 8)
-width-by true b = (omega arith, omega arith, omega arith)
-width-by false true = (omega arith, omega arith, omega arith)
-width-by false false = (omega arith, omega arith, omega arith)
-
-pub width-some : (k : ℕ) → 1 ≤ width k
-unfolding width
-width-some k = width-by (leb k 1) (leb k 3) .0
-
-pub width-few : (k : ℕ) → width k ≤ 3
-unfolding width
-width-few k = width-by (leb k 1) (leb k 3) .1
-
-pub bits-few : (k : ℕ) → 2 ^ width k ≤ 8
-unfolding width
-bits-few k = width-by (leb k 1) (leb k 3) .2
-
 -- ---- a window of digits
 
 -- w bits from bit r on do not see what stands at bit k or above

@@ -1,9 +1,8 @@
 // Counters from one K to another: planes of 64 of them, rows and columns alike, from bytes and to bytes of any width. No sets of lines are made.
 use crate::fill::fill;
 use crate::judge::Judged;
+use crate::judge::spare_clear;
 use crate::packable;
-use crate::packing::spare_clear;
-use crate::packing::width as width_of;
 use crate::planes::planes_from;
 use crate::planes::thresholds;
 use crate::roomy;
@@ -11,6 +10,7 @@ use crate::threes::Threes;
 use crate::threes::fill_threes;
 use crate::threes::raised;
 use crate::threes::threes_from;
+use grid_sets::Converted;
 use grid_sets::LEVELS;
 use refusals::ACCEPTED;
 use refusals::BIT_PAST_END;
@@ -24,13 +24,7 @@ ghost use Rattle.bits.specs.Bits.{some, first as firstOf};
 ghost use Rattle.rdis.specs.Packing.{counter};
 ghost use Rattle.grid_sets.specs.Sets.{setsOf};
 ghost use Rattle.grid_counters.specs.Steps.{AreThrees, Judges, FillsPlanes};
-ghost use Rattle.grid_counters.specs.Promises.{Convert};
-
-// What a conversion answers: 0 or the number of the refusal, and with refusal 4 the index of the first counter above K.
-pub struct Converted {
-    pub number: usize,
-    pub index: usize,
-}
+ghost use Rattle.grid_sets.specs.Promises.{Convert};
 
 // The planes of the 64 counters from counter `first` on, with 0 past the end.
 fn planes_at(bytes: &[u8], width: usize, first: usize) -> Threes
@@ -115,13 +109,13 @@ pub fn convert(
             index: 0,
         };
     }
-    let width = width_of(k);
+    let width = grid_sizes::width(k);
     let first = planes_at(bytes, width, 0);
     let second = planes_at(bytes, width, 64);
     let clear = spare_clear(bytes, width, rows + columns);
     let j = judge_planes(clear, above(first, k), above(second, k));
     if j.number == ACCEPTED {
-        fill_at(out, width_of(to), first, second);
+        fill_at(out, grid_sizes::width(to), first, second);
     }
     Converted {
         number: j.number,

@@ -3,11 +3,23 @@ use grid_sets::LEVELS;
 use refusals::ACCEPTED;
 use refusals::BIT_PAST_END;
 use refusals::MALFORMED;
+ghost use mathlib.Core.Path.{_≡_};
 ghost use mathlib.Core.Bool.{_&&_};
 ghost use Prim.Native.Nat.{_≤_};
 ghost use lib.Dec.{ltb};
+ghost use lib.ListN.{length};
+ghost use Rattle.rdis.specs.Packing.{bytesFor, spareClear};
 ghost use Rattle.grid_sets.specs.Sets.{someLine, firstLine};
 ghost use Rattle.grid_counters.specs.Steps.{Judges};
+
+// The bits past the last counter are 0.
+pub fn spare_clear(bytes: &[u8], width: usize, count: usize) -> bool
+    requires { ⌜ (width ≤ 8) × (count ≤ 128) × (length (now bytes) ≡ bytesFor width count) ⌝ }
+    ensures { λ r. ⌜ r ≡ spareClear width count (now (bytes .entry)) ⌝ }
+{
+    let p = width * count;
+    words::byte(bytes, p / 8) >> (p % 8) == 0
+}
 
 // 0 or the number of the refusal, and with refusal 4 the index of the first counter above K.
 pub struct Judged {

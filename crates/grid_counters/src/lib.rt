@@ -1,12 +1,12 @@
-// A block's counters in bytes: how many bytes they take, which counters bytes hold, the bytes of the counters of levels, and (in conversion) those at another K.
+// A block's counters in bytes: which counters bytes hold, the bytes of the counters of levels, and (in conversion) those at another K.
 pub mod conversion;
 mod fill;
 mod judge;
-mod packing;
 mod planes;
 mod tally;
 mod threes;
 
+use grid_sets::Counters;
 use grid_sets::LEVELS;
 use grid_sets::LINES;
 use refusals::WRONG_LENGTH;
@@ -18,36 +18,7 @@ ghost use lib.ListN.{length};
 ghost use Rattle.bits.specs.Bits.{num, list, has};
 ghost use Rattle.rdis.specs.Packing.{width as widthOf, bytesFor, inOrder, packed};
 ghost use Rattle.grid_sets.specs.Sets.{times};
-ghost use Rattle.grid_counters.specs.Promises.{fit, roomy as isRoomy, packable as isPackable, Unpack, Pack};
-
-// A block has at most so many counters: one for each of 64 rows and 64 columns.
-pub const COUNTERS: usize = 128;
-
-// What bytes hold: 0 or the number of the refusal, with refusal 4 the index of the first counter above K, and the sets of the rows' counters and of the
-// columns'. Set s has the lines whose counter is above s.
-pub struct Counters {
-    pub number: usize,
-    pub index: usize,
-    pub rows: [u64; LEVELS],
-    pub columns: [u64; LEVELS],
-}
-
-// How many bytes `count` counters take, and 0 for more than a block has: their bits might overflow.
-pub fn bytes_of(k: usize, count: usize) -> usize
-    ensures { λ r. ⌜ r ≡ cond (leb count 128) (bytesFor (widthOf k) count) 0 ⌝ }
-{
-    if count > COUNTERS {
-        return 0;
-    }
-    packing::bytes_for(packing::width(k), count)
-}
-
-// Whether so many bytes are what `count` counters take.
-pub fn fits(k: usize, count: usize, bytes: usize) -> bool
-    ensures { λ r. ⌜ r ≡ fit k count bytes ⌝ }
-{
-    (count <= COUNTERS) & (bytes == bytes_of(k, count))
-}
+ghost use Rattle.grid_sets.specs.Promises.{roomy as isRoomy, packable as isPackable, Unpack, Pack};
 
 // Whether so many bytes are what the counters of these lines take. Sizes first: `rows + columns` of any might overflow.
 fn roomy(k: usize, rows: usize, columns: usize, bytes: usize) -> bool
@@ -56,7 +27,7 @@ fn roomy(k: usize, rows: usize, columns: usize, bytes: usize) -> bool
     if !((rows <= LINES) & (columns <= LINES)) {
         return false;
     }
-    fits(k, rows + columns, bytes)
+    grid_sizes::fits(k, rows + columns, bytes)
 }
 
 // The counters that bytes hold, as sets, judged. They are handed out refused or not, but for bytes of a wrong length, which hold none.
@@ -71,7 +42,7 @@ pub fn unpack(k: usize, rows: usize, columns: usize, bytes: &[u8]) -> Counters
             columns: [0u64; LEVELS],
         };
     }
-    let width = packing::width(k);
+    let width = grid_sizes::width(k);
     if width == 3 {
         return unpack_threes(k, rows, columns, bytes);
     }
@@ -79,7 +50,7 @@ pub fn unpack(k: usize, rows: usize, columns: usize, bytes: &[u8]) -> Counters
     let second = planes::planes_from(bytes, width, 64);
     let r = planes::sets(first, second, 0, rows);
     let c = planes::sets(first, second, rows, columns);
-    let clear = packing::spare_clear(bytes, width, rows + columns);
+    let clear = judge::spare_clear(bytes, width, rows + columns);
     let j = judge::judge(clear, &r, &c, k, rows);
     Counters {
         number: j.number,
@@ -98,7 +69,7 @@ fn unpack_threes(k: usize, rows: usize, columns: usize, bytes: &[u8]) -> Counter
     let second = threes::threes_from(bytes, 24);
     let row_sets = threes::sets_of_threes(first, second, 0, rows);
     let column_sets = threes::sets_of_threes(first, second, rows, columns);
-    let clear = packing::spare_clear(bytes, 3, rows + columns);
+    let clear = judge::spare_clear(bytes, 3, rows + columns);
     let j = judge::judge(clear, &row_sets, &column_sets, k, rows);
     Counters {
         number: j.number,
@@ -112,7 +83,7 @@ fn unpack_threes(k: usize, rows: usize, columns: usize, bytes: &[u8]) -> Counter
 fn packable(k: usize, rows: usize, columns: usize, used: usize, bytes: usize) -> bool
     ensures { λ r. ⌜ r ≡ isPackable k rows columns used bytes ⌝ }
 {
-    (used < 1 << packing::width(k)) & roomy(k, rows, columns, bytes)
+    (used < 1 << grid_sizes::width(k)) & roomy(k, rows, columns, bytes)
 }
 
 // Writes the counters of the levels that took these sets of rows and of columns: how many took each row, then each column.
@@ -130,7 +101,7 @@ pub fn pack(
     if !packable(k, rows, columns, used, out.len()) {
         return;
     }
-    let width = packing::width(k);
+    let width = grid_sizes::width(k);
     if width == 3 {
         pack_threes(rows, columns, used, rowsets, columnsets, out);
         return;
@@ -147,7 +118,7 @@ pub fn pack_one(k: usize, rows: usize, columns: usize, taken: u64, across: u64, 
 {
     fill::fill_singles(
         out,
-        packing::width(k),
+        grid_sizes::width(k),
         tally::front(taken, across, rows),
         tally::back(across, rows),
     );

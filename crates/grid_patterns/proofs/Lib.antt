@@ -1,3 +1,4 @@
 pub mod FlipLaws
 pub mod FillLaws
 pub mod InvertLaws
+pub mod Claims

@@ -16,3 +16,5 @@ pub mod AfterConversion
 pub mod PlanThenConvert
 pub mod OldReads
 pub mod ConvertEdges
+pub mod LowestAnswers
+pub mod Claims

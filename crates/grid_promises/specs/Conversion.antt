@@ -6,7 +6,8 @@ use mathlib.Core.Bool.{Bool, not, cond, _&&_}
 use mathlib.Core.List.{List, [], _∷_}
 use lib.Dec.{leb}
 use lib.ListN.{length}
-use Rattle.bits.specs.First.{Refusal, _when_, First}
+use Rattle.bits.specs.Lowest.{Lowest}
+use Rattle.bits.specs.First.{Refusal, _when_, First, Applies}
 use Rattle.bits.specs.Ends.{Alike, One, Measured}
 use Rattle.rdis.specs.Block.{Block}
 use Rattle.rdis.specs.Packing.{width, bytesFor, packed, unpacked, above, spareClear}
@@ -96,6 +97,12 @@ OneConvert = (m n k k′ : ℕ) (counters out : List ℕ) → One (ConvertExactl
 
 abbrev pub OneConvertByDemands : Type 0
 OneConvertByDemands = (m n k k′ : ℕ) (counters out : List ℕ) → One (ConvertDemands m n k k′ counters out)
+
+-- the lowest number that applies is the answer, or 0 where none does
+abbrev pub ConvertLowest : Type 0
+ConvertLowest =
+    (m n k k′ : ℕ) (counters out : List ℕ) (a : ConvertAnswer) (after : List ℕ)
+    → ConvertDemands m n k k′ counters out a after → Lowest (Applies (convertRefusals m n k k′ counters (length out))) (a .number)
 
 -- a smaller target is refusal 1, whatever else holds
 abbrev pub SmallerRefused : Type 0

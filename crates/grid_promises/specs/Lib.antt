@@ -4,3 +4,4 @@ pub mod Demands
 pub mod Promises
 pub mod Theorems
 pub mod Conversion
+pub mod Claims

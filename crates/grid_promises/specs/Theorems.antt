@@ -7,6 +7,8 @@ use mathlib.Core.Logic.{_↔_}
 use lib.Dec.{eqb, ltb}
 use lib.ListN.{length}
 use Rattle.bits.specs.Bits.{some, first}
+use Rattle.bits.specs.Lowest.{Lowest}
+use Rattle.bits.specs.First.{Applies}
 use Rattle.bits.specs.Ends.{One, Measured}
 use Rattle.rdis.specs.Block.{Block, bit, stuck}
 use Rattle.rdis.specs.Levels.{plan}
@@ -14,7 +16,7 @@ use Rattle.rdis.specs.Cells.{stored, reading}
 use Rattle.rdis.specs.Packing.{width, bytesFor, inOrder, packed, counter, rowCounter, columnCounter, spareClear}
 use Rattle.rdis.specs.Theorems.{withValues, oldWidth}
 use Rattle.grid_promises.specs.Calls.{between, past, rowsOf, columnsOf}
-use Rattle.grid_promises.specs.Refusals.{InRange, Past}
+use Rattle.grid_promises.specs.Refusals.{InRange, Past, readRefusals, planRefusals, storeRefusals}
 use Rattle.grid_promises.specs.Demands.{CountsKinds, BoundsLevels, ReadDemands, PlanDemands, StoreDemands}
 use Rattle.grid_promises.specs.Promises.{ReadExactly, Read, PlanExactly, Plan, StoreExactly, Store}
 use Rattle.grid_promises.specs.declared.ReadAnswer.{ReadAnswer}
@@ -41,6 +43,23 @@ OnePlanByDemands = (b : Block) (k : ℕ) (counters : List ℕ) → One (PlanDema
 
 abbrev pub OneStoreByDemands : Type 0
 OneStoreByDemands = (b : Block) (k : ℕ) (counters cells : List ℕ) → One (StoreDemands b k counters cells)
+
+-- ---- the lowest number that applies is the answer, or 0 where none does
+
+abbrev pub ReadLowest : Type 0
+ReadLowest =
+    (m n k : ℕ) (cells counters out : List ℕ) (a : ReadAnswer) (after : List ℕ)
+    → ReadDemands m n k cells counters out a after → Lowest (Applies (readRefusals m n k cells counters (length out))) (a .number)
+
+abbrev pub PlanLowest : Type 0
+PlanLowest =
+    (b : Block) (k : ℕ) (counters : List ℕ) (a : Answer) (after : List ℕ)
+    → PlanDemands b k counters a after → Lowest (Applies (planRefusals b k (length counters))) (a .number)
+
+abbrev pub StoreLowest : Type 0
+StoreLowest =
+    (b : Block) (k : ℕ) (counters cells : List ℕ) (a : Answer) (after : List ℕ)
+    → StoreDemands b k counters cells a after → Lowest (Applies (storeRefusals b k counters (length cells))) (a .number)
 
 -- ---- what is said of the two kinds of stuck cells is enough for demand 3's bound
 

@@ -1,2 +1,5 @@
 pub mod Examples
 pub mod SetLaws
+pub mod RoomLaws
+pub mod Demands
+pub mod Claims

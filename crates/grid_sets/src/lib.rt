@@ -4,3 +4,18 @@
 pub const LINES: usize = 64;
 // There is room for so many sets of rows, and of columns, so that a larger K changes no shape.
 pub const LEVELS: usize = 8;
+
+// What bytes hold: 0 or the number of the refusal, with refusal 4 the index of the first counter above K, and the sets of the rows' counters and of the
+// columns'. Set s has the lines whose counter is above s.
+pub struct Counters {
+    pub number: usize,
+    pub index: usize,
+    pub rows: [u64; LEVELS],
+    pub columns: [u64; LEVELS],
+}
+
+// What a conversion answers: 0 or the number of the refusal, and with refusal 4 the index of the first counter above K.
+pub struct Converted {
+    pub number: usize,
+    pub index: usize,
+}

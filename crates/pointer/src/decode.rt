@@ -1,5 +1,5 @@
 // From metadata to entries: what the entries hold, which are active, and what is wrong with them.
-use super::octets::byte;
+use words::byte;
 use super::octets::shown;
 use crate::ENTRIES;
 use crate::ENTRY_BITS;

@@ -1,6 +1,6 @@
 // From entries to metadata: the row's bits as digits of ten bits, the full bit the highest of the first, and these digits cut into bytes.
 use super::decode::entry_at;
-use super::octets::byte;
+use words::byte;
 use crate::DIGITS;
 use crate::ENTRY_BITS;
 use crate::ROW_CELLS;

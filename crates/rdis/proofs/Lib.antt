@@ -9,3 +9,4 @@ pub mod SoundLaws
 pub mod CountLaws
 pub mod FaultLaws
 pub mod TakenLaws
+pub mod Claims

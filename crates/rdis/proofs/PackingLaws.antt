@@ -1,13 +1,13 @@
 -- Counters in bytes, over any width: there and back, the only bytes, and where each bit is. Assumes nothing.
 use Prim.Native.Nat.{ℕ, zero, suc, _+_, _-_, _*_, _/_, _%_, _^_, _≤_, _<_}
 use mathlib.Core.Path.{_≡_, refl, sym, ap, subst, _∙_}
-use mathlib.Core.Bool.{true}
+use mathlib.Core.Bool.{Bool, true, false, cond}
 use mathlib.Core.List.{List}
 use mathlib.Core.Logic.{⊎-elim}
 use native.Mathlib.Nat.{mod-lt, mod-eq-of-lt, div-eq-of-lt, div-add-mod, lt-of-lt-of-le, mul-le-mul-left}
 use native.Mathlib.Omega.{arith}
 use borrow.Author.Tests.{lt-ltb, ltb-true, le-leb, lt-leb}
-use lib.Dec.{lit<}
+use lib.Dec.{leb, lit<}
 use lib.ListN.{length, getD, length-append, List·getD-append}
 use lib.Pow.{pow-pos, pow-mono}
 use lib.Seq.{getD-append-add}
@@ -159,7 +159,24 @@ counters-back w m n r c h k =
       λ j p. counter-packed w (m + j) (inOrder m n r c) below (omega arith) ∙ column-in-order m n r c j p,
     )
 
--- ---- of a plan
+-- ---- widths
+
+width-by : (a b : Bool) → let w : ℕ = cond a 1 (cond b 2 3) in (1 ≤ w) × (w ≤ 3) × (2 ^ w ≤ 8)
+width-by true b = (omega arith, omega arith, omega arith)
+width-by false true = (omega arith, omega arith, omega arith)
+width-by false false = (omega arith, omega arith, omega arith)
+
+pub width-some : (k : ℕ) → 1 ≤ width k
+unfolding width
+width-some k = width-by (leb k 1) (leb k 3) .0
+
+pub width-few : (k : ℕ) → width k ≤ 3
+unfolding width
+width-few k = width-by (leb k 1) (leb k 3) .1
+
+pub bits-few : (k : ℕ) → 2 ^ width k ≤ 8
+unfolding width
+bits-few k = width-by (leb k 1) (leb k 3) .2
 
 pub three-bits : ThreeBits
 unfolding width
@@ -181,6 +198,8 @@ pub old-width-kept : OldWidthKept
 old-width-kept k h =
     let same = old-width k h in
     record { bits = same; packs = λ cs. ap (λ w. packed w cs) same; unpacks = λ n bs. ap (λ w. unpacked w n bs) same; reads = λ m n bs cells. rw same }
+
+-- ---- of a plan
 
 module _ (b : Block) (k l : ℕ) (r c : ℕ → ℕ) (e : Masked b k l r c) where
   plan-lt : (v : ℕ) → k < v → ((i : ℕ) → r i < v) × ((j : ℕ) → c j < v)

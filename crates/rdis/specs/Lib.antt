@@ -5,3 +5,4 @@ pub mod Chains
 pub mod Facts
 pub mod Packing
 pub mod Theorems
+pub mod Claims

@@ -1,9 +1,9 @@
-// Small functions on words. Each answers for every argument.
+// Small functions on words, and on bytes that make words. Each public one answers for every argument.
 ghost use mathlib.Core.Path.{_≡_};
 ghost use mathlib.Core.Bool.{true, cond};
-ghost use Prim.Native.Nat.{_+_, _*_, _^_, _≤_, min};
+ghost use Prim.Native.Nat.{_+_, _*_, _^_, _≤_, _<_, min};
 ghost use lib.Dec.{eqb};
-ghost use lib.ListN.{length, take, drop};
+ghost use lib.ListN.{length, getD, take, drop};
 ghost use Rattle.bits.specs.Bits.{word, number};
 
 // The bits of a word.
@@ -37,6 +37,17 @@ pub fn copy(from: &[u64], into: &mut [u64])
 {
     if into.len() == from.len() {
         copy_all(from, into);
+    }
+}
+
+// The byte at `at` as a number, and 0 past the end.
+pub fn byte(bytes: &[u8], at: usize) -> usize
+    ensures { λ r. ⌜ (r ≡ getD (now (bytes .entry)) at 0) × (r < 256) ⌝ }
+{
+    if at < bytes.len() {
+        bytes[at] as usize
+    } else {
+        0
     }
 }
 

@@ -8,10 +8,10 @@ use lib.ListN.{length}
 use Rattle.bits.proofs.TestLaws.{clash}
 use Rattle.rdis.specs.Packing.{width, bytesFor, packed, inOrder}
 use Rattle.grid_sets.specs.Sets.{times}
-use Rattle.grid_counters.specs.Promises.{packable}
-use Rattle.grid_counters.proofs.PackLaws.{width-some, width-few}
+use Rattle.grid_sets.specs.Promises.{packable}
+use Rattle.rdis.proofs.PackingLaws.{width-some, width-few}
 use Rattle.grid_counters.proofs.FillLaws.{all-packed}
-use Rattle.grid_counters.proofs.PromiseLaws.{Room, packs, levels-few, counters-fit}
+use Rattle.grid_sets.proofs.RoomLaws.{Room, packs, levels-few, counters-fit}
 use Rattle.grid_counters.proofs.pack.Statement.{statement}
 use Rattle.grid_counters.proofs.pack.Tie as tie
 

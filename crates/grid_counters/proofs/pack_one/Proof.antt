@@ -5,9 +5,10 @@ use Prim.Native.Nat.{_^_, _<_}
 use lib.ListN.{length}
 use Rattle.bits.specs.Bits.{num, has}
 use Rattle.rdis.specs.Packing.{width}
-use Rattle.grid_counters.proofs.PackLaws.{width-some}
+use Rattle.rdis.proofs.PackingLaws.{width-some}
 use Rattle.grid_counters.proofs.FillLaws.{all-packed, one-plane, one-first, one-second}
-use Rattle.grid_counters.proofs.PromiseLaws.{Room, packs, narrow-width, ones-fit}
+use Rattle.grid_sets.proofs.RoomLaws.{Room, packs}
+use Rattle.grid_counters.proofs.PromiseLaws.{narrow-width, ones-fit}
 use Rattle.grid_counters.proofs.pack_one.Statement.{statement}
 use Rattle.grid_counters.proofs.pack_one.Tie as tie
 

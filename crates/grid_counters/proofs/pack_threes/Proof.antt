@@ -2,7 +2,7 @@ use borrow.Author.Needs.{needs}
 use native.Mathlib.Omega.{arith}
 use Rattle.rdis.proofs.PackingLaws.{in-order-below}
 use Rattle.grid_sets.specs.Sets.{times}
-use Rattle.grid_counters.proofs.PromiseLaws.{times-few}
+use Rattle.grid_sets.proofs.RoomLaws.{times-few}
 use Rattle.grid_counters.proofs.ThreeFillLaws.{all-threes-packed}
 use Rattle.grid_counters.proofs.pack_threes.Statement.{statement}
 use Rattle.grid_counters.proofs.pack_threes.Tie as tie

@@ -4,8 +4,8 @@ use mathlib.Core.Path.{ap₂, _∙_}
 use mathlib.Core.Bool.{_&&_}
 use lib.Dec.{ltb}
 use Rattle.bits.proofs.BitLaws.{one-shl}
-use Rattle.grid_counters.specs.Promises.{packable}
-use Rattle.grid_counters.proofs.PackLaws.{width-few}
+use Rattle.grid_sets.specs.Promises.{packable}
+use Rattle.rdis.proofs.PackingLaws.{width-few}
 use Rattle.grid_counters.proofs.packable.Statement.{statement}
 use Rattle.grid_counters.proofs.packable.Tie as tie
 

@@ -2,7 +2,7 @@ use borrow.Author.Needs.{needs}
 use borrow.Author.Tests.{not-true, not-false}
 use mathlib.Core.Path.{_∙_}
 use native.Mathlib.Omega.{arith}
-use Rattle.grid_counters.proofs.PromiseLaws.{many-lines, few-lines, lines-few}
+use Rattle.grid_sets.proofs.RoomLaws.{many-lines, few-lines, lines-few}
 use Rattle.grid_counters.proofs.roomy.Statement.{statement}
 use Rattle.grid_counters.proofs.roomy.Tie as tie
 

@@ -7,7 +7,8 @@ use Rattle.rdis.specs.Packing.{width, counter, spareClear, bytesFor}
 use Rattle.grid_sets.proofs.SetLaws.{sets-ext}
 use Rattle.grid_counters.specs.Steps.{AreThrees}
 use Rattle.grid_counters.proofs.ThreeLaws.{threes-ext}
-use Rattle.grid_counters.proofs.PromiseLaws.{Room, has-room, counter-few, judged}
+use Rattle.grid_sets.proofs.RoomLaws.{Room, has-room}
+use Rattle.grid_counters.proofs.PromiseLaws.{counter-few, judged}
 use Rattle.grid_counters.proofs.unpack_threes.Statement.{statement}
 use Rattle.grid_counters.proofs.unpack_threes.Tie as tie
 

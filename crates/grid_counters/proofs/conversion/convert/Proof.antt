@@ -9,10 +9,11 @@ use lib.ListN.{length}
 use Rattle.bits.specs.Bits.{some, first}
 use Rattle.rdis.specs.Packing.{width, counter, spareClear}
 use Rattle.grid_counters.specs.Steps.{AreThrees, Judges}
-use Rattle.grid_counters.specs.Promises.{convertible}
-use Rattle.grid_counters.proofs.PackLaws.{width-some, width-few}
+use Rattle.grid_sets.specs.Promises.{convertible}
+use Rattle.rdis.proofs.PackingLaws.{width-some, width-few}
 use Rattle.grid_counters.proofs.ThreeLaws.{threes-ext}
-use Rattle.grid_counters.proofs.PromiseLaws.{Room, counter-few}
+use Rattle.grid_sets.proofs.RoomLaws.{Room}
+use Rattle.grid_counters.proofs.PromiseLaws.{counter-few}
 use Rattle.grid_counters.proofs.ConvertLaws.{not-convertible, convert-room, convert-refused, convert-done}
 use Rattle.grid_counters.proofs.conversion.convert.Statement.{statement}
 use Rattle.grid_counters.proofs.conversion.convert.Tie as tie

@@ -1,0 +1,39 @@
+-- The theorems of this room, all proved. Assumes nothing.
+use Rattle.fragment_promises.specs.Claims.{Claims}
+use Rattle.fragment_promises.proofs.StepLaws.{one-start, one-lump, one-start-by-demands, one-lump-by-demands, start-lowest, lump-lowest}
+use Rattle.fragment_promises.proofs.FinishLaws.{one-finish, one-finish-by-demands, finish-measured}
+use Rattle.fragment_promises.proofs.SequenceLaws.{as-defined, every-lump, every-finish}
+use Rattle.fragment_promises.proofs.CuttingLaws.{whole-block, sent-block, store-then-send, wrong-output, short-block, long-block, bad-block, every-start, ever-after, not-taken, joined-lumps, two-cuttings, any-cutting, empty-lump, finish-between, starts-afresh, stays}
+
+pub claims : Claims
+claims = record {
+  oneStart = one-start;
+  oneLump = one-lump;
+  oneFinish = one-finish;
+  oneStartByDemands = one-start-by-demands;
+  oneLumpByDemands = one-lump-by-demands;
+  oneFinishByDemands = one-finish-by-demands;
+  startLowest = start-lowest;
+  lumpLowest = lump-lowest;
+  finishMeasured = finish-measured;
+  asDefined = as-defined;
+  everyLump = every-lump;
+  everyFinish = every-finish;
+  whole = whole-block;
+  sent = sent-block;
+  storeThenSend = store-then-send;
+  wrongOutput = wrong-output;
+  short = short-block;
+  long = long-block;
+  bad = bad-block;
+  everyStart = every-start;
+  everAfter = ever-after;
+  notTaken = not-taken;
+  joined = joined-lumps;
+  twoCuttings = two-cuttings;
+  anyCutting = any-cutting;
+  emptyLump = empty-lump;
+  finishBetween = finish-between;
+  startsAfresh = starts-afresh;
+  stays = stays;
+}

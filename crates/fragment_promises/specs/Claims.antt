@@ -1,0 +1,34 @@
+-- Every theorem of this room, in one record. proofs/Claims.antt has a value of it, so a theorem that loses its proof fails the check. Assumes nothing.
+use Rattle.fragment_promises.specs.Promises.{OneStart, OneLump, OneFinish, OneStartByDemands, OneLumpByDemands, OneFinishByDemands, StartLowest, LumpLowest, FinishMeasured}
+use Rattle.fragment_promises.specs.Sequences.{AsDefined, EveryLump, EveryFinish, Whole, Sent, StoreThenSend, WrongOutput, Short, Long, Bad, EveryStart, EverAfter, NotTaken, Joined, TwoCuttings, AnyCutting, EmptyLump, FinishBetween, StartsAfresh, Stays}
+
+pub record Claims : Type 0 where
+  pub oneStart : OneStart
+  pub oneLump : OneLump
+  pub oneFinish : OneFinish
+  pub oneStartByDemands : OneStartByDemands
+  pub oneLumpByDemands : OneLumpByDemands
+  pub oneFinishByDemands : OneFinishByDemands
+  pub startLowest : StartLowest
+  pub lumpLowest : LumpLowest
+  pub finishMeasured : FinishMeasured
+  pub asDefined : AsDefined
+  pub everyLump : EveryLump
+  pub everyFinish : EveryFinish
+  pub whole : Whole
+  pub sent : Sent
+  pub storeThenSend : StoreThenSend
+  pub wrongOutput : WrongOutput
+  pub short : Short
+  pub long : Long
+  pub bad : Bad
+  pub everyStart : EveryStart
+  pub everAfter : EverAfter
+  pub notTaken : NotTaken
+  pub joined : Joined
+  pub twoCuttings : TwoCuttings
+  pub anyCutting : AnyCutting
+  pub emptyLump : EmptyLump
+  pub finishBetween : FinishBetween
+  pub startsAfresh : StartsAfresh
+  pub stays : Stays

@@ -1,0 +1,8 @@
+-- The theorems of this room, all proved. Assumes nothing.
+use Rattle.grid_patterns.specs.Claims.{Claims}
+use Rattle.grid_patterns.proofs.InvertLaws.{one-invert}
+
+pub claims : Claims
+claims = record {
+  oneInvert = one-invert;
+}

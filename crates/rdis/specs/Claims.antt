@@ -1,0 +1,33 @@
+-- Every theorem of this room, in one record. proofs/Claims.antt has a value of it, so a theorem that loses its proof fails the check. Assumes nothing.
+use Rattle.rdis.specs.Theorems.{RefusedByChain, MoreAllowed, LevelsByChain, OneDepth, NoChainEmpty, LevelsCounted, OneCount, LevelsByKind, TwoKinds, LevelsByFaults, FaultsAreCells, WrongWhereFlipped, ReadBack, StoredReads, PlanReads, StuckHeld, PackedOnly, FewestBytes, CounterBits, PackedBits, SpareBits, CountersBack, CountersAtMost, LevelsReached, WidthHolds, OldWidthKept, ThreeBits, ReadBackPacked, SoundIgnored}
+
+pub record Claims : Type 0 where
+  pub refusedByChain : RefusedByChain
+  pub moreAllowed : MoreAllowed
+  pub levelsByChain : LevelsByChain
+  pub oneDepth : OneDepth
+  pub noChainEmpty : NoChainEmpty
+  pub levelsCounted : LevelsCounted
+  pub oneCount : OneCount
+  pub levelsByKind : LevelsByKind
+  pub twoKinds : TwoKinds
+  pub levelsByFaults : LevelsByFaults
+  pub faultsAreCells : FaultsAreCells
+  pub wrongWhereFlipped : WrongWhereFlipped
+  pub readBack : ReadBack
+  pub storedReads : StoredReads
+  pub planReads : PlanReads
+  pub stuckHeld : StuckHeld
+  pub packedOnly : PackedOnly
+  pub fewestBytes : FewestBytes
+  pub counterBits : CounterBits
+  pub packedBits : PackedBits
+  pub spareBits : SpareBits
+  pub countersBack : CountersBack
+  pub countersAtMost : CountersAtMost
+  pub levelsReached : LevelsReached
+  pub widthHolds : WidthHolds
+  pub oldWidthKept : OldWidthKept
+  pub threeBits : ThreeBits
+  pub readBackPacked : ReadBackPacked
+  pub soundIgnored : SoundIgnored
