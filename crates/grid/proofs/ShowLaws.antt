@@ -51,7 +51,7 @@ module _ (m n k : ℕ) (cells counters out : List ℕ) where
     show-judged s w i y h =
         refused-show s w (i ∙ sym (no-index k (m + n) counters (s .number) (λ z. not-four (inRange m n k) (readSized m n k (length cells) (length counters) (length out)) (sym by-tests ∙ sym y ∙ z)))) (λ z. h (sym y ∙ z)) (y ∙ by-tests ∙ stands (inRange m n k) (readSized m n k (length cells) (length counters) (length out)) _ (λ z. h (by-tests ∙ z)))
 
-    -- numbers and lengths that are right let a function go on that knows the rows by the words alone; and what it promises is promised of the rows
+    -- numbers and lengths that are right leave it to the words, and then let a function go on that knows the rows by the words alone; and what it promises is promised of the rows
     module _ (z : x ≡ 0) where
       right : (inRange m n k ≡ true) × (readSized m n k (length cells) (length counters) (length out) ≡ true)
       right = passes (inRange m n k) (readSized m n k (length cells) (length counters) (length out)) (sym by-tests ∙ z)
@@ -59,13 +59,20 @@ module _ (m n k : ℕ) (cells counters out : List ℕ) where
       lengths : ReadLengths m n k (length cells) (length counters) (length out)
       lengths = read-sized m n k (length cells) (length counters) (length out) .0 (right .1)
 
-      pub show-goes-on : ShowSized n k cells counters out
-      show-goes-on = let l = lengths in record { ranges = rw (l .cellWords) (right .0); sizes = rw (l .cellWords) (l .counterBytes); room = l .outWords ∙ sym (l .cellWords) }
+      pub show-past : (s : Shown) → s .levels ≡ 0 → s .index ≡ 0 → s .number ≡ 3 → past n cells ≡ true → Shows m n k cells counters out s out
+      unfolding readNumber
+      show-past s w i y h =
+          refused-show s w (i ∙ sym (no-index k (m + n) counters (s .number) (λ z. omega (arith, y)))) (λ z. omega (arith, y)) (y ∙ rw (right .0, right .1, h))
+
+      pub show-goes-on : past n cells ≡ false → ShowSized n k cells counters out
+      show-goes-on inside =
+          let l = lengths in
+          record { ranges = rw (l .cellWords) (right .0); sizes = rw (l .cellWords) (l .counterBytes); room = l .outWords ∙ sym (l .cellWords); inside = inside }
 
       pub show-comes-back : (s : Shown) (after : List ℕ) → Shows (length cells) n k cells counters out s after → Shows m n k cells counters out s after
       show-comes-back s after r = subst (λ y. Shows y n k cells counters out s after) (lengths .cellWords) r
 
--- ---- the words and the counters
+-- ---- the counters
 
 module _ (n k : ℕ) (cells counters out : List ℕ) (p : ShowSized n k cells counters out) where
   range : InRange (length cells) n k
@@ -74,24 +81,19 @@ module _ (n k : ℕ) (cells counters out : List ℕ) (p : ShowSized n k cells co
   sizes : readSized (length cells) n k (length cells) (length counters) (length out) ≡ true
   sizes = read-sized (length cells) n k (length cells) (length counters) (length out) .1 (record { cellWords = refl; counterBytes = p .sizes; outWords = p .room })
 
-  pub show-past : (s : Shown) → s .levels ≡ 0 → s .index ≡ 0 → s .number ≡ 3 → past n cells ≡ true → Shows (length cells) n k cells counters out s out
-  unfolding readNumber
-  show-past s w i e h =
-      refused-show (length cells) n k cells counters out s w (i ∙ sym (no-index k (length cells + n) counters (s .number) (λ z. omega (arith, e)))) (λ z. omega (arith, e)) (e ∙ rw (p .ranges, sizes, h))
-
   -- there is room for the counters of a block in range
   room : roomy k (length cells) n (length counters) ≡ true
   room = is-roomy k (length cells) n (length counters) (record { rows = range .rows .1; columns = range .columns .1; size = p .sizes })
 
-  -- within the columns the counters decide
-  module _ (inside : past n cells ≡ false) (c : Counters) (u : Unpack k (length cells) n counters c) where
+  -- the counters decide
+  module _ (c : Counters) (u : Unpack k (length cells) n counters c) where
     number-is : c .number ≡ cond (not (spareClear (width k) (length cells + n) counters)) 3 (cond (above k (length cells + n) counters) 4 0)
     unfolding unpackNumber
     number-is = u .number ∙ rw room
 
     read-number : c .number ≡ readNumber (length cells) n k cells counters (length out)
     unfolding readNumber
-    read-number = number-is ∙ rw (p .ranges, sizes, inside)
+    read-number = number-is ∙ rw (p .ranges, sizes, p .inside)
 
     pub show-refused : (s : Shown) → s .levels ≡ 0 → s .index ≡ c .index → s .number ≡ c .number → (c .number ≡ 0 → ⊥) → Shows (length cells) n k cells counters out s out
     show-refused s w i e h =
@@ -113,7 +115,7 @@ module _ (n k : ℕ) (cells counters out : List ℕ) (p : ShowSized n k cells co
       unfolding invertedBy bit
       cell-outside i j h =
           ap₂ xor (ap (λ y. odd (c .rows) y k i j) (u .columnSets room) ∙ odd-past (c .rows) n k i j (columnCounter (width k) (length cells) counters) h)
-          (has-high n (getD cells i 0) j (within n cells .0 inside i) h)
+          (has-high n (getD cells i 0) j (within n cells .0 (p .inside) i) h)
           ∙ xor-false false
 
       shows : (after : List ℕ) → Invert (c .rows) (c .columns) k cells out after → after ≡ reading (length cells) n (rowCounter (width k) counters) (columnCounter (width k) (length cells) counters) cells

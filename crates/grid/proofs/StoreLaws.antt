@@ -27,7 +27,7 @@ use Rattle.grid_promises.proofs.StoreDemands.{store-demands}
 use Rattle.grid_promises.proofs.IndexLaws.{no-index}
 use Rattle.grid_checks.specs.Numbers.{judged, storeJudged}
 use Rattle.grid.specs.declared.shows.Shown.{Shown}
-use Rattle.grid.specs.Steps.{blockOf, Rows, StoreSized, Refuses, Accepts, Shows, anyDiffers}
+use Rattle.grid.specs.Steps.{ShowSized, blockOf, Rows, StoreSized, Refuses, Accepts, Shows, anyDiffers}
 use Rattle.grid.proofs.Returns.{stands, passes, not-four, none-of, mask-inside}
 
 refused-store : (b : Block) (k : ℕ) (counters cells : List ℕ) (a : Answer) (x t : ℕ) → (x ≡ 0 → ⊥) → x ≡ storeNumber b k counters (length cells)
@@ -147,7 +147,11 @@ module _ (n k : ℕ) (d mask values counters cells : List ℕ) (s : StoreSized n
   store-past a h r =
       refused-store own k counters cells a 3 0 (λ z. omega arith) (rw (s .planned .ranges, lengths-right, h)) (sym (no-index k (length d + n) counters 3 (λ z. omega arith))) r
 
-  -- the data is read by the counters
+  -- the data, within the columns, is read by the counters
+  pub shows-on : planPast own ≡ false → (apart : List ℕ) → length apart ≡ length d → ShowSized n k d counters apart
+  shows-on inside apart l =
+      record { ranges = s .planned .ranges; sizes = s .planned .sizes; room = l; inside = none-of (past n d) (past n mask) (past n values) inside .0 }
+
   module _ (inside : planPast own ≡ false) (apart apart′ : List ℕ) (l : length apart ≡ length d) (r : Shown) (i : Shows (length d) n k d counters apart r apart′) where
     abbrev rows : ℕ → ℕ
     rows = rowCounter (width k) counters

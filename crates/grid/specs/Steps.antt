@@ -9,7 +9,7 @@ use Rattle.rdis.specs.Block.{Block, bit, faults}
 use Rattle.rdis.specs.Levels.{Subgrid, whole, taken, Outcome, masked, unmaskable, levels}
 use Rattle.rdis.specs.Packing.{width, bytesFor, counter}
 use Rattle.grid_sets.specs.Sets.{times}
-use Rattle.grid_promises.specs.Calls.{block, inRange}
+use Rattle.grid_promises.specs.Calls.{block, inRange, past}
 use Rattle.grid_promises.specs.Demands.{CountsNothing, CountsKinds}
 use Rattle.grid_promises.specs.Promises.{Read}
 use Rattle.grid_promises.specs.declared.Answer.{Answer}
@@ -21,12 +21,14 @@ use Rattle.grid.specs.declared.shows.Shown.{Shown}
 abbrev pub blockOf : ℕ → List ℕ → List ℕ → List ℕ → Block
 blockOf n d mask values = block (length d) n d mask values
 
--- numbers in range, and buffers as long as they should be
+-- numbers in range, buffers as long as they should be, and no bit past the last column
 pub record ShowSized (n k : ℕ) (cells counters out : List ℕ) : Type 0 where
   pub ranges : inRange (length cells) n k ≡ true
   pub sizes : length counters ≡ bytesFor (width k) (length cells + n)
   pub room : length out ≡ length cells
+  pub inside : past n cells ≡ false
 
+-- numbers in range, and buffers as long as they should be
 pub record PlanSized (n k : ℕ) (d mask values counters : List ℕ) : Type 0 where
   pub ranges : inRange (length d) n k ≡ true
   pub masks : length mask ≡ length d

@@ -55,10 +55,17 @@ pub fn show(
             levels: 0,
         };
     }
+    if !grid_checks::within(cells, columns) {
+        return Shown {
+            number: BIT_PAST_END,
+            index: 0,
+            levels: 0,
+        };
+    }
     show_sized(columns, k, cells, counters, out)
 }
 
-// That of numbers in range and buffers that are as long as they should be.
+// That of numbers in range, buffers that are as long as they should be, and words within the columns.
 pub fn show_sized(
     columns: usize,
     k: usize,
@@ -69,13 +76,6 @@ pub fn show_sized(
     requires { ⌜ ShowSized columns k (now cells) (now counters) (now out) ⌝ }
     ensures { λ r. ⌜ Shows (length (now (cells .entry))) columns k (now (cells .entry)) (now (counters .entry)) (now (out .entry)) r (now (out .exit)) ⌝ }
 {
-    if !grid_checks::within(cells, columns) {
-        return Shown {
-            number: BIT_PAST_END,
-            index: 0,
-            levels: 0,
-        };
-    }
     let c = grid_counters::unpack(k, cells.len(), columns, counters);
     if c.number != ACCEPTED {
         return Shown {

@@ -1,7 +1,7 @@
 use borrow.Author.Needs.{needs}
 use Rattle.grid_promises.specs.Refusals.{InRange}
 use Rattle.grid_promises.proofs.RefusalLaws.{in-range}
-use Rattle.grid.proofs.StoreLaws.{apart-rows, store-refused, store-misread, store-done}
+use Rattle.grid.proofs.StoreLaws.{shows-on, apart-rows, store-refused, store-misread, store-done}
 use Rattle.grid.proofs.store_by.Statement.{statement}
 use Rattle.grid.proofs.store_by.Tie as tie
 
@@ -10,7 +10,10 @@ store-by-spec =
     tie.close
     (tie.spec
     -- show-sized-requires
-    (λ c κs. let s = c .before .before .before .before .before .before .before in let p = s .pre .0 .planned in record { ranges = p .ranges; sizes = p .sizes; room = s .pre .1 .1 })
+    (λ c κs.
+    let s = c .before .before .before .before .before .before .before in
+    let a = s .args in
+    shows-on (a .columns) (a .k) (a .«data» .now) (a .mask .now) (a .values .now) (a .counters .now) (a .cells .now) (s .pre .0) (s .pre .1 .0) _ (s .pre .1 .1))
     -- refused-requires
     (λ c κs. search needs)
     -- same-length
