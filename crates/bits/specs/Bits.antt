@@ -3,7 +3,7 @@
 use Prim.Native.Nat.{ℕ, zero, suc, _+_, _*_, _/_, _%_, _^_, _<_, max}
 use mathlib.Core.Bool.{Bool, true, false, cond, _||_}
 use mathlib.Core.List.{List, [], _∷_, _++_}
-use lib.ListN.{getD}
+use lib.ListN.{getD, take, drop}
 use lib.Dec.{eqb}
 
 -- ---- below a bound
@@ -74,6 +74,10 @@ number b (d ∷ ds) = number b ds * b + d
 unfoldable pub digits : ℕ → ℕ → ℕ → List ℕ
 digits b zero x = []
 digits b (suc n) x = x % b ∷ digits b n (x / b)
+
+-- the number of the n bytes from place p on, the lowest first; a byte that is not there adds nothing
+unfoldable pub numberAt : List ℕ → ℕ → ℕ → ℕ
+numberAt bs p n = number 256 (take n (drop p bs))
 
 -- every element is below b
 abbrev pub Below : ℕ → List ℕ → Type 0

@@ -9,7 +9,7 @@ use borrow.Author.Tests.{le-leb}
 use lib.Dec.{leb}
 use lib.ListN.{length, getD, take, drop, set}
 use lib.Seq.{paste, paste-zero, paste-suc, take-length}
-use Rattle.bits.specs.Bits.{number}
+use Rattle.bits.specs.Bits.{number, numberAt}
 use Rattle.bits.proofs.BoundLaws.{length-list, list-more}
 use Rattle.rdis.specs.Packing.{width, bytesFor}
 use Rattle.grid_promises.specs.Refusals.{InRange}
@@ -89,9 +89,9 @@ judged-lump t j bs room d = go d
 
 -- ---- the words of a block
 
-pub one-word-more : (c i v : ℕ) (bs xs : List ℕ) → i < length xs → take i xs ≡ wordsFrom c i bs → v ≡ number 256 (take 8 (drop (c + 8 * i) bs))
+pub one-word-more : (c i v : ℕ) (bs xs : List ℕ) → i < length xs → take i xs ≡ wordsFrom c i bs → v ≡ numberAt bs (c + 8 * i) 8
     → take (i + 1) (set xs i v) ≡ wordsFrom c (i + 1) bs
-unfolding wordsFrom
+unfolding wordsFrom numberAt
 one-word-more c i v bs xs l e h = list-more i _ v xs l e h
 
 pub length-words-from : (c m : ℕ) (bs : List ℕ) → length (wordsFrom c m bs) ≡ m

@@ -11,7 +11,7 @@ use lib.Bits.{bitAnd, bitOr, or-lt, and-lt}
 use lib.Dec.{ltb, lit<, lit≤}
 use lib.ListN.{take, drop}
 use lib.Pow.{pow-pos}
-use Rattle.bits.specs.Bits.{num, list, number, has, word, words, Below}
+use Rattle.bits.specs.Bits.{num, list, number, has, word, words, Below, numberAt}
 use Rattle.bits.proofs.TestLaws.{lt-or-le}
 use Rattle.bits.proofs.BitLaws.{has-and, has-or, has-zero, has-low, has-high, has-shr, has-word, is-word, word-lt, word-ext, word-narrow}
 use Rattle.bits.proofs.ByteLaws.{words-ext}
@@ -26,7 +26,8 @@ use Rattle.grid_counters.proofs.PackLaws.{window}
 -- ---- eight bytes
 
 -- they are the 64 bits from there on
-pub loaded : (q : ℕ) (bs : List ℕ) → Below 256 bs → number 256 (take 8 (drop q bs)) ≡ number 256 bs / 2 ^ (8 * q) % 2 ^ 64
+pub loaded : (q : ℕ) (bs : List ℕ) → Below 256 bs → numberAt bs q 8 ≡ number 256 bs / 2 ^ (8 * q) % 2 ^ 64
+unfolding numberAt
 loaded q bs h =
     let here : 8 * q / 8 ≡ q = omega arith in
     let edge : 8 * q % 8 ≡ 0 = omega arith in

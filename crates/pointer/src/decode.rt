@@ -1,5 +1,4 @@
 // From metadata to entries: what the entries hold, which are active, and what is wrong with them.
-use words::byte;
 use super::octets::shown;
 use crate::ENTRIES;
 use crate::ENTRY_BITS;
@@ -11,6 +10,7 @@ use refusals::MALFORMED;
 use refusals::OUT_OF_RANGE;
 use refusals::SAME_POINTER;
 use refusals::WRONG_LENGTH;
+use words::byte;
 ghost use mathlib.Core.Path.{_≡_};
 ghost use Prim.Native.Nat.{_≤_};
 ghost use Rattle.bits.specs.Bits.{list};

@@ -1,9 +1,9 @@
 // From entries to metadata: the row's bits as digits of ten bits, the full bit the highest of the first, and these digits cut into bytes.
 use super::decode::entry_at;
-use words::byte;
 use crate::DIGITS;
 use crate::ENTRY_BITS;
 use crate::ROW_CELLS;
+use words::byte;
 ghost use mathlib.Core.Path.{_≡_};
 ghost use Prim.Native.Nat.{_≤_};
 ghost use lib.ListN.{length};

@@ -1,4 +1,2 @@
-// Numbers from bytes, and text into bytes. Every function answers for every argument: it reads what is there, and puts as much as there is room for.
-pub mod input;
-mod sizes;
+// Text into bytes. Every function answers for every argument: it puts as much as there is room for.
 pub mod text;

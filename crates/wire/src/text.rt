@@ -5,7 +5,7 @@ ghost use Prim.Native.Nat.{_<_, min};
 ghost use lib.ListN.{length};
 ghost use Rattle.io.specs.Digits.{glyph};
 ghost use Rattle.wire.specs.Text.{hexOf, decimal, Put};
-use crate::sizes::least;
+use words::least;
 
 // The ASCII code of a digit.
 fn digit(d: u64) -> u8

@@ -1,7 +1,7 @@
 -- Laws of bytes that are joined to a word. Assumes nothing.
 use Prim.Native.Nat.{ℕ, zero, suc, _+_, _*_, _%_, _^_, _≤_, _<_}
 use mathlib.Core.Path.{_≡_, sym, ap, _∙_}
-use mathlib.Core.List.{List, [], _∷_}
+use mathlib.Core.List.{List, [], _∷_, _++_}
 use native.Mathlib.Nat.{mul-suc}
 use native.Mathlib.Numerals.{add-one}
 use native.Mathlib.Omega.{arith}
@@ -9,8 +9,8 @@ use lib.Arith.{digits-lt}
 use lib.Bits.{bitOr, or-shifted}
 use lib.ListN.{length, getD, take, drop, length-drop}
 use lib.Pow.{pow-pos, pow-add, shl-exact}
-use lib.Seq.{take-all, getD-drop}
-use Rattle.bits.specs.Bits.{number, Below}
+use lib.Seq.{take-all, getD-drop, take-append-le, drop-append-le}
+use Rattle.bits.specs.Bits.{number, numberAt, Below}
 use Rattle.bits.proofs.DigitLaws.{number-take, pow-mul}
 
 pub lifted : (x up : ℕ) → x < 256 → up ≤ 56 → x * 2 ^ up % 2 ^ 64 ≡ x * 2 ^ up
@@ -33,12 +33,25 @@ join-more q j v x bs h e f =
     let s : v + x ≡ number 256 (take (j + 1) (drop q bs)) = rw (add-one, number-take 256 j (drop q bs), e, f, getD-drop, pow-mul 8 j) in
     ap (λ y. bitOr y v) f ∙ or-shifted (getD bs (q + j) 0) (8 * j) v l ∙ ap (λ y. y + v) (sym f) ∙ omega (arith, s)
 
--- fewer than eight that are all there are, and none
-pub all-left : (q n : ℕ) (bs : List ℕ) → length bs ≤ q + n → n ≤ 8 → number 256 (take n (drop q bs)) ≡ number 256 (take 8 (drop q bs))
-all-left q n bs h l =
-    let few : length (drop q bs) ≤ n = rw length-drop (omega arith) in
-    ap (number 256) (take-all n (drop q bs) few ∙ sym (take-all 8 (drop q bs) (omega arith)))
+-- ---- of those that are there
 
-pub none-left : (q : ℕ) (bs : List ℕ) → length bs ≤ q → 0 ≡ number 256 (take 8 (drop q bs))
+-- fewer than n, which are all there are, and none
+pub all-left : (q n m : ℕ) (bs : List ℕ) → length bs ≤ q + n → n ≤ m → number 256 (take n (drop q bs)) ≡ numberAt bs q m
+unfolding numberAt
+all-left q n m bs h l =
+    let few : length (drop q bs) ≤ n = rw length-drop (omega arith) in
+    ap (number 256) (take-all n (drop q bs) few ∙ sym (take-all m (drop q bs) (omega arith)))
+
+pub none-left : (q m : ℕ) (bs : List ℕ) → length bs ≤ q → 0 ≡ numberAt bs q m
 unfolding number
-none-left q bs h = all-left q 0 bs (omega arith) (omega arith)
+none-left q m bs h = all-left q 0 m bs (omega arith) (omega arith)
+
+pub all-there : (q n m : ℕ) (bs : List ℕ) → n ≡ m → number 256 (take n (drop q bs)) ≡ numberAt bs q m
+unfolding numberAt
+all-there q n m bs e = rw e
+
+-- bytes that follow change nothing of a number that is there whole
+pub number-before : (bs rest : List ℕ) (p n : ℕ) → p + n ≤ length bs → numberAt (bs ++ rest) p n ≡ numberAt bs p n
+unfolding numberAt
+number-before bs rest p n h =
+    ap (λ l. number 256 (take n l)) (drop-append-le p bs rest (omega arith)) ∙ ap (number 256) (take-append-le n (drop p bs) rest (rw length-drop (omega arith)))

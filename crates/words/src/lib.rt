@@ -4,10 +4,17 @@ ghost use mathlib.Core.Bool.{true, cond};
 ghost use Prim.Native.Nat.{_+_, _*_, _^_, _≤_, _<_, min};
 ghost use lib.Dec.{eqb};
 ghost use lib.ListN.{length, getD, take, drop};
-ghost use Rattle.bits.specs.Bits.{word, number};
+ghost use Rattle.bits.specs.Bits.{word, number, numberAt};
 
 // The bits of a word.
 pub const BITS: usize = 64;
+
+// The smaller of two.
+pub fn least(a: usize, b: usize) -> usize
+    ensures { λ r. ⌜ r ≡ min a b ⌝ }
+{
+    if a < b { a } else { b }
+}
 
 // The word whose n lowest bits are 1: all of them from 64 on.
 pub fn low_bits(n: usize) -> u64
@@ -73,18 +80,25 @@ fn join(bytes: &[u8], at: usize, n: usize) -> u64
     v
 }
 
-// The word of the eight bytes from byte `at` on, the first the lowest, with 0 past the end. Eight are joined by themselves: the compiler then makes one load
-// of them.
-pub fn load(bytes: &[u8], at: usize) -> u64
-    ensures { λ r. ⌜ r ≡ number 256 (take 8 (drop at (now (bytes .entry)))) ⌝ }
+// The number of the `n` bytes from byte `at` on, of at most eight of them, the first the lowest; a byte past the end adds nothing.
+pub fn number_at(bytes: &[u8], at: usize, n: usize) -> u64
+    ensures { λ r. ⌜ r ≡ numberAt (now (bytes .entry)) at (min n 8) ⌝ }
 {
     if bytes.len() <= at {
         return 0;
     }
-    let n = bytes.len() - at;
-    if n < 8 {
-        join(bytes, at, n)
+    let left = bytes.len() - at;
+    let most = least(n, 8);
+    if left < most {
+        join(bytes, at, left)
     } else {
-        join(bytes, at, 8)
+        join(bytes, at, most)
     }
+}
+
+// The word of the eight bytes from byte `at` on. The compiler makes one load of them where all are there.
+pub fn load(bytes: &[u8], at: usize) -> u64
+    ensures { λ r. ⌜ r ≡ numberAt (now (bytes .entry)) at 8 ⌝ }
+{
+    number_at(bytes, at, 8)
 }
