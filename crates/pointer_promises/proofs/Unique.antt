@@ -16,20 +16,15 @@ use Rattle.pointer_promises.specs.Theorems.{ReadUnique, WritesAlike, Wri
 use Rattle.pointer_promises.specs.declared.WriteAnswer.{WriteAnswer}
 use Rattle.pointer_promises.proofs.PositionLaws.{positions-ext}
 
-pub read-unique : ReadUnique
-read-unique n cells m out a b o p r s = (λ i. record { number = number i }, go (ℕ-discrete (a .number) 0))
-  where
-    number : a .number ≡ b .number
-    number = r .number ∙ sym (s .number)
-
-    go : Dec (a .number ≡ 0) → o ≡ p
-    go (yes z) = r .filled z ∙ sym (s .filled (sym number ∙ z))
-    go (no z) = r .refused z ∙ sym (s .refused (λ y. z (number ∙ y)))
-
 pub output-measured : OutputMeasured
 output-measured n cells m out out₂ a b o p e r s =
     let number : a .number ≡ b .number = r .number ∙ ap (readNumber n (length cells) m) e ∙ sym (s .number) in
     (λ i. record { number = number i }, λ z. r .filled z ∙ sym (s .filled (sym number ∙ z)))
+
+pub read-unique : ReadUnique
+read-unique n cells m out a b o p r s =
+    let (x, y) = output-measured n cells m out out a b o p refl r s in
+    (x, elim (ℕ-discrete (a .number) 0) [ yes z ↦ y z | no z ↦ r .refused z ∙ sym (s .refused (λ h. z (ap (λ c. c .number) x ∙ h))) ])
 
 -- over two calls whose definitions agree: with the same arguments they do
 module _ (n : ℕ) (wanted mask values values₂ cells cells₂ m : List ℕ)

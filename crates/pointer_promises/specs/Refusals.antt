@@ -93,7 +93,7 @@ pub record NoneLeft (n : ℕ) (wanted mask values m : List ℕ) : Type 0 where
 
 -- ---- the refusals, in the order in which they are judged
 
--- those of both calls, and then these others: `Lengths` says that every buffer is as long as it should be
+-- those that a read and a write share, and then others. `Lengths` says that every lent buffer is as long as it should be
 abbrev pub rowRefusals : Type 0 → ℕ → List ℕ → List Refusal → List Refusal
 rowRefusals Lengths n m others =
     (1 when (InRange n → ⊥)) ∷ (2 when (Lengths → ⊥)) ∷ (3 when Spare n m) ∷ (4 when (WellFormed n m → ⊥)) ∷ (5 when NamedTwice n m) ∷ others

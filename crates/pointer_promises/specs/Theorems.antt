@@ -22,10 +22,12 @@ ReadUnique = (n : ℕ) (cells metadata out : List ℕ) → One (Read n cells met
 -- a write that ends as P allows and one that ends as Q allows end the same: with one answer, the same cells and the same metadata
 abbrev pub WritesAlike : (WriteAnswer → List ℕ → List ℕ → Type 0) → (WriteAnswer → List ℕ → List ℕ → Type 0) → Type 0
 WritesAlike P Q =
-    (a a′ : WriteAnswer) (cells cells′ metadata metadata′ : List ℕ) → P a cells metadata → Q a′ cells′ metadata′ → (a ≡ a′) × (cells ≡ cells′) × (metadata ≡ metadata′)
+    (a a′ : WriteAnswer) (cells cells′ metadata metadata′ : List ℕ) → P a cells metadata → Q a′ cells′ metadata′
+    → (a ≡ a′) × (cells ≡ cells′) × (metadata ≡ metadata′)
 
 abbrev pub WriteUnique : Type 0
-WriteUnique = (n : ℕ) (wanted mask values cells metadata : List ℕ) → WritesAlike (Write n wanted mask values cells metadata) (Write n wanted mask values cells metadata)
+WriteUnique =
+    (n : ℕ) (wanted mask values cells metadata : List ℕ) → WritesAlike (Write n wanted mask values cells metadata) (Write n wanted mask values cells metadata)
 
 -- ---- and there is one: for every argument some end keeps the promise, of a write where its data are bytes
 
@@ -46,7 +48,8 @@ ReadLowest =
 
 abbrev pub WriteLowest : Type 0
 WriteLowest =
-    (n : ℕ) (wanted mask values cells metadata : List ℕ) (a : WriteAnswer) (cells′ metadata′ : List ℕ) → Write n wanted mask values cells metadata a cells′ metadata′
+    (n : ℕ) (wanted mask values cells metadata : List ℕ) (a : WriteAnswer) (cells′ metadata′ : List ℕ)
+    → Write n wanted mask values cells metadata a cells′ metadata′
     → Lowest (Applies (writeRefusals n wanted mask values (length cells) metadata)) (a .number)
 
 -- ---- what does not count
@@ -59,7 +62,8 @@ OutputMeasured = (n : ℕ) (cells metadata : List ℕ) → Measured (λ a. a .nu
 abbrev pub OldMeasured : Type 0
 OldMeasured =
     (n : ℕ) (wanted mask values metadata old old′ : List ℕ) (a a′ : WriteAnswer) (c c′ m m′ : List ℕ) → length old ≡ length old′
-    → Write n wanted mask values old metadata a c m → Write n wanted mask values old′ metadata a′ c′ m′ → (a ≡ a′) × (a .number ≡ 0 → c ≡ c′) × (m ≡ m′)
+    → Write n wanted mask values old metadata a c m → Write n wanted mask values old′ metadata a′ c′ m′
+    → (a ≡ a′) × (a .number ≡ 0 → c ≡ c′) × (m ≡ m′)
 
 -- value bits at sound cells: writes whose values are as long, and agree at the stuck cells, end the same
 abbrev pub SoundValues : Type 0
