@@ -1,5 +1,4 @@
 pub mod TestLaws
-pub mod LowestLaws
 pub mod FirstLaws
 pub mod BoundLaws
 pub mod BitLaws

@@ -1,3 +1,4 @@
 pub mod Checked
 pub mod PromiseLaws
 pub mod Loops
+pub mod Claims

@@ -5,6 +5,7 @@ use mathlib.Core.List.{List, [], _∷_}
 use mathlib.Core.Logic.{_≢_}
 use native.Mathlib.Omega.{arith}
 use Rattle.bits.proofs.TestLaws.{iff-stable}
+use Rattle.bits.proofs.FirstLaws.{hit}
 use Rattle.rdis.specs.Block.{Block, faults}
 use Rattle.grid_promises.specs.Demands.{CountsNothing, CountsKinds}
 use Rattle.grid_promises.specs.declared.Answer.{Answer}
@@ -16,7 +17,7 @@ use Rattle.fragment_promises.specs.Promises.{Finishes}
 use Rattle.fragment_promises.specs.Sequences.{Event, starts}
 use Rattle.fragment_promises.proofs.SequenceLaws.{as-defined}
 use Rattle.pointer_promises.specs.Pointer.{active, held, encode, verdict}
-use Rattle.pointer_promises.specs.Refusals.{InRange, outOfRange}
+use Rattle.pointer_promises.specs.Refusals.{InRange}
 use Rattle.pointer_promises.proofs.FormedLaws.{active-is}
 use Rattle.pointer_promises.proofs.RefusalLaws.{range-iff}
 use Rattle.cases.specs.Lines.{Line, Call, metadata, pointerRead, pointerWrite, gridRead, gridPlan, gridStore, gridConvert, transfer, byNumber, countersIn, counted, uncounted, readRefused, storeRefused, heldCounters, finished, line}
@@ -36,7 +37,7 @@ none (suc n) second h = refl
 promised-metadata : (n : ℕ) (es : List ℕ) → Promised (metadata n es) (line (metadata n es))
 unfolding line
 promised-metadata n es wanted mask values cells m answer cells′ m′ w z e =
-    let range : InRange n = iff-stable _ (range-iff n) (λ q. w .lowest .none z 1 (outOfRange q)) in
+    let range : InRange n = iff-stable _ (range-iff n) (λ q. omega (arith, z, hit (w .first) q)) in
     let bytes : m′ ≡ encode n es = w .encodes z ∙ ap (encode n) e in
     let count : answer .active ≡ active n (encode n es) = sym (active-is n m′ range (answer .active) (w .noted z)) ∙ ap (active n) bytes in
     λ i. record { numbers = verdict n (bytes i) ∷ count i ∷ []; buffers = bytes i ∷ held n (bytes i) ∷ [] }

@@ -16,6 +16,7 @@ use Rattle.bits.proofs.BitLaws.{has-zero, has-ext, some-has}
 use Rattle.bits.proofs.ByteLaws.{at-bytes, length-bytes, is-bytes, at-past}
 use Rattle.pointer_promises.specs.Pointer.{size, entry, spare, active, unary, idle, formed, held, repeats, slot, metadataBit, encode, verdict}
 use Rattle.pointer_promises.specs.Refusals.{Spare}
+use Rattle.pointer_promises.specs.Theorems.{Fits}
 use Rattle.pointer_promises.proofs.MetadataLaws.{has-entry, entry-lt, has-unary, idle-lt, idle-last, idle-other, active-full, active-unary, active-part, length-held, getD-held, formed-idle}
 use Rattle.pointer_promises.proofs.FormedLaws.{spare-iff}
 
@@ -65,13 +66,6 @@ metadata-bit n es e k h =
 
 -- ---- what was encoded is found again
 
--- entries that fit into a row
-pub record Fits (n : ℕ) (es : List ℕ) : Type 0 where
-  pub least : 1 ≤ n
-  pub most : n ≤ 10
-  pub few : length es ≤ n
-  pub small : Below 1024 es
-
 module _ (n : ℕ) (es : List ℕ) (s : Fits n es) where
   at-encode : (p : ℕ) → p < 8 * size n → at (encode n es) p ≡ metadataBit n es p
   unfolding encode
@@ -87,7 +81,7 @@ module _ (n : ℕ) (es : List ℕ) (s : Fits n es) where
 
   full-encode : at (encode n es) 0 ≡ eqb (length es) n
   unfolding metadataBit
-  full-encode = at-encode 0 (omega (arith, s .least))
+  full-encode = at-encode 0 (omega (arith, s .range .0))
 
   pub active-encode : active n (encode n es) ≡ length es
   active-encode = ⊎-elim all part (eq-or-lt-of-le (s .few))
@@ -101,7 +95,7 @@ module _ (n : ℕ) (es : List ℕ) (s : Fits n es) where
           let last : entry m (n - 1) ≡ unary (length es) = entry-slot (n - 1) (omega arith) ∙ slot-idle n es (n - 1) (omega arith) ∙ idle-last n (length es) (n - 1) (omega arith) in
           active-unary n m (full-encode ∙ ne-eqb (length es) n (omega arith))
           ∙ sum-ext (n - 1) (λ k. num (has (entry m (n - 1)) k)) (λ k. num (ltb k (length es)))
-          (λ k h. ap num (ap (λ x. has x k) last ∙ has-unary (length es) k (omega (arith, s .most))))
+          (λ k h. ap num (ap (λ x. has x k) last ∙ has-unary (length es) k (omega (arith, s .range .1))))
           ∙ sum-below (n - 1) (length es) ∙ omega arith
 
   spare-encode : spare n (encode n es) ≡ false

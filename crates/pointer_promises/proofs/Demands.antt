@@ -5,28 +5,30 @@ use mathlib.Core.List.{List}
 use mathlib.Core.Logic.{_≢_}
 use Prim.Native.Nat.{ℕ, _+_, _≤_, _<_}
 use native.Mathlib.Omega.{arith}
+use native.Mathlib.Decide.{ℕ-discrete}
 use lib.ListN.{length, getD}
 use Rattle.bits.specs.Bits.{at, bytes, Below}
-use Rattle.bits.specs.Lowest.{Lowest}
+use Rattle.bits.specs.First.{First}
 use Rattle.bits.proofs.ByteLaws.{length-bytes, at-bytes, is-bytes}
 use Rattle.pointer_promises.specs.Pointer.{pointer, replacement, entry, active, held, shown, after, activeAfter, stored, encode, readNumber, needed, writeNumber}
-use Rattle.pointer_promises.specs.Refusals.{Active, Unserved, ReadRefused, WriteRefused}
+use Rattle.pointer_promises.specs.Refusals.{Active, Unserved, readRefusals, writeRefusals}
 use Rattle.pointer_promises.specs.Promises.{Read, Write}
+use Rattle.pointer_promises.specs.Theorems.{ReadExists, WriteExists, Fits}
 use Rattle.pointer_promises.proofs.MetadataLaws.{length-held, getD-held}
 use Rattle.pointer_promises.proofs.FormedLaws.{active-said, formed-iff}
 use Rattle.pointer_promises.proofs.ServedLaws.{shown-cell, shown-entry, unserved-iff}
-use Rattle.pointer_promises.proofs.CodecLaws.{Fits, length-encode, entry-encode, active-encode, formed-encode, held-encode, verdict-encode}
+use Rattle.pointer_promises.proofs.CodecLaws.{length-encode, entry-encode, active-encode, formed-encode, held-encode, verdict-encode}
 use Rattle.pointer_promises.proofs.NumberLaws.{Passed, Accepted, read-ok, read-passed, full-exactly, write-zero}
-use Rattle.pointer_promises.proofs.RefusalLaws.{read-lowest, write-lowest}
+use Rattle.pointer_promises.proofs.RefusalLaws.{read-first, write-first}
 use Rattle.pointer_promises.proofs.WrittenLaws.{length-after, after-below, after-replacement, after-old, after-serves, after-rises, after-differs, after-shows}
 
 -- ---- a read
 
-read-number : (n k : ℕ) (cells m out : List ℕ) → k ≡ readNumber n (length cells) m (length out) → Lowest (ReadRefused n (length cells) m (length out)) k
-read-number n k cells m out e = subst (Lowest (ReadRefused n (length cells) m (length out))) (sym e) (read-lowest n (length cells) m (length out))
+read-number : (n k : ℕ) (cells m out : List ℕ) → k ≡ readNumber n (length cells) m (length out) → First (readRefusals n (length cells) m (length out)) k
+read-number n k cells m out e = subst (First _) (sym e) (read-first n (length cells) m (length out))
 
 pub read-refused : (n k : ℕ) (cells m out : List ℕ) → k ≡ readNumber n (length cells) m (length out) → k ≢ 0 → Read n cells m out (record { number = k }) out
-read-refused n k cells m out e h = record { number = e; lowest = read-number n k cells m out e; refused = λ _. refl; filled = λ z. absurd (h z); shows = λ z. absurd (h z); replaces = λ z. absurd (h z) }
+read-refused n k cells m out e h = record { number = e; first = read-number n k cells m out e; refused = λ _. refl; filled = λ z. absurd (h z); shows = λ z. absurd (h z); replaces = λ z. absurd (h z) }
 
 pub read-accepted : (n : ℕ) (cells m out out′ : List ℕ) → 0 ≡ readNumber n (length cells) m (length out) → out′ ≡ bytes 64 (λ p. shown (held n m) p (at cells p))
     → Read n cells m out (record { number = 0 }) out′
@@ -35,24 +37,30 @@ read-accepted n cells m out out′ e h =
     let at-out : (q : ℕ) → q < 512 → at out′ q ≡ shown (held n m) q (at cells q) = λ q l. ap (λ bs. at bs q) h ∙ at-bytes 64 (λ p. shown (held n m) p (at cells p)) q l in
     record {
       number = e;
-      lowest = read-number n 0 cells m out e;
+      first = read-number n 0 cells m out e;
       refused = λ z. absurd (z refl);
       filled = λ _. h;
       shows = λ _ a q s l u. at-out q l ∙ shown-cell n m (p .range) (p .forms) a q (at cells q) s l u;
       replaces = λ _ a f q s l k u. at-out q k ∙ shown-entry n m (p .range) (p .forms) a f q (at cells q) (p .differs) s l k u;
     }
 
+pub read-exists : ReadExists
+read-exists n cells m out = elim (ℕ-discrete (readNumber n (length cells) m (length out)) 0) [
+  | yes z ↦ (_, _, read-accepted n cells m out _ (sym z) refl)
+  | no z ↦ (_, _, read-refused n _ cells m out refl z)
+]
+
 -- ---- a write
 
 module _ (n : ℕ) (wanted mask values cells m : List ℕ) where
-  write-number : (k : ℕ) → k ≡ writeNumber n wanted mask values (length cells) m → Lowest (WriteRefused n wanted mask values (length cells) m) k
-  write-number k e = subst (Lowest (WriteRefused n wanted mask values (length cells) m)) (sym e) (write-lowest n wanted mask values (length cells) m)
+  write-number : (k : ℕ) → k ≡ writeNumber n wanted mask values (length cells) m → First (writeRefusals n wanted mask values (length cells) m) k
+  write-number k e = subst (First _) (sym e) (write-first n wanted mask values (length cells) m)
 
   pub write-refused : (k : ℕ) → k ≡ writeNumber n wanted mask values (length cells) m → k ≢ 0
       → Write n wanted mask values cells m (record { number = k; active = 0; new = 0 }) cells m
   write-refused k e h = record {
     number = e;
-    lowest = write-number k e;
+    first = write-number k e;
     refused = λ _. (refl, refl, refl, refl);
     stores = λ z. absurd (h z);
     encodes = λ z. absurd (h z);
@@ -89,8 +97,7 @@ module _ (n : ℕ) (wanted mask values cells m : List ℕ) where
     fits : Fits n row
     unfolding row
     fits = record {
-      least = accepted .judged .range .0;
-      most = accepted .judged .range .1;
+      range = accepted .judged .range;
       few = omega (arith, length-row, accepted .few);
       small = after-below wanted mask values es;
     }
@@ -152,7 +159,7 @@ module _ (n : ℕ) (wanted mask values cells m : List ℕ) where
     unfolding exit row es
     exact e b = record {
       number = e;
-      lowest = write-number 0 e;
+      first = write-number 0 e;
       refused = λ z. absurd (z refl);
       stores = λ _. refl;
       encodes = λ _. refl;
@@ -174,3 +181,9 @@ module _ (n : ℕ) (wanted mask values cells m : List ℕ) where
       → k ≡ needed wanted mask values (held n m) → cells′ ≡ bytes 64 (stored wanted mask values) → m′ ≡ encode n (after wanted mask values (held n m))
       → Write n wanted mask values cells m (record { number = 0; active = a; new = k }) cells′ m′
   write-accepted a k cells′ m′ e b ha hk hc hm = rw (hc, hm, ha, hk) (exact (write-zero n wanted mask values (length cells) m (sym e)) e b)
+
+pub write-exists : WriteExists
+write-exists n wanted mask values cells m b = elim (ℕ-discrete (writeNumber n wanted mask values (length cells) m) 0) [
+  | yes z ↦ (_, _, _, write-accepted n wanted mask values cells m _ _ _ _ (sym z) b refl refl refl refl)
+  | no z ↦ (_, _, _, write-refused n wanted mask values cells m _ refl z)
+]

@@ -1,25 +1,24 @@
 -- Encoding and decoding are inverse on well-formed metadata whose pointers differ, and zeros are a fresh row. Assumes nothing.
 use mathlib.Core.Path.{_≡_, refl, sym, ap, _∙_}
 use mathlib.Core.Bool.{Bool, true, false, cond}
-use mathlib.Core.List.{List, []}
+use mathlib.Core.List.{[]}
 use Prim.Native.Nat.{ℕ, zero, suc, _+_, _/_, _%_, _≤_}
 use native.Mathlib.Omega.{arith}
 use borrow.Author.Tests.{ne-eqb}
 use lib.Dec.{eqb}
-use lib.ListN.{length, replicate, length-replicate}
-use Rattle.bits.specs.Bits.{has, word, Below}
+use lib.ListN.{replicate, length-replicate}
+use Rattle.bits.specs.Bits.{has, word}
 use Rattle.bits.proofs.BitLaws.{has-zero}
 use Rattle.bits.proofs.ByteLaws.{getD-zeros, at-zeros, is-bytes}
-use Rattle.pointer_promises.specs.Pointer.{size, active, unary, idle, held, repeats, metadataBit, encode, verdict}
-use Rattle.pointer_promises.proofs.CodecLaws.{Fits, slot-idle, active-encode, held-encode, verdict-encode, encode-held}
+use Rattle.pointer_promises.specs.Pointer.{size, active, unary, idle, repeats, metadataBit, encode}
+use Rattle.pointer_promises.specs.Theorems.{Fits, DecodeEncode, EncodeDecode, FreshRow}
+use Rattle.pointer_promises.proofs.CodecLaws.{slot-idle, active-encode, held-encode, verdict-encode, encode-held}
 use Rattle.pointer_promises.proofs.NumberLaws.{verdict-zero}
 
--- what was encoded is decoded again, with nothing wrong in it
-pub decode-encode : (n : ℕ) (es : List ℕ) → Fits n es → repeats es ≡ false → (verdict n (encode n es) ≡ 0) × (held n (encode n es) ≡ es)
+pub decode-encode : DecodeEncode
 decode-encode n es s d = (verdict-encode n es s d, held-encode n es s)
 
--- what was decoded with nothing wrong in it is encoded again
-pub encode-decode : (n : ℕ) (m : List ℕ) → 1 ≤ n → length m ≡ size n → Below 256 m → verdict n m ≡ 0 → encode n (held n m) ≡ m
+pub encode-decode : EncodeDecode
 encode-decode n m l s b v = let c = verdict-zero n m v in encode-held n m l s (c .spares) (c .forms) b
 
 -- ---- a fresh row
@@ -45,9 +44,8 @@ encode-none n l =
     (is-bytes (size n) (metadataBit n []) (replicate (size n) 0) (length-replicate (size n) 0) (λ i. rw (getD-zeros (size n) i) (omega arith))
     (λ p h. at-zeros (size n) p ∙ sym (fresh-bit n p l)))
 
--- for every n in range nothing is wrong with them, and no entry is active
-pub fresh-row : (n : ℕ) → 1 ≤ n → n ≤ 10 → (verdict n (replicate (size n) 0) ≡ 0) × (active n (replicate (size n) 0) ≡ 0)
+pub fresh-row : FreshRow
 unfolding repeats
-fresh-row n l h =
-    let s : Fits n [] = record { least = l; most = h; few = omega arith; small = λ i. omega arith } in
-    rw (← encode-none n l) (verdict-encode n [] s refl, active-encode n [] s)
+fresh-row n range =
+    let s : Fits n [] = record { range = range; few = omega arith; small = λ i. omega arith } in
+    rw (← encode-none n (range .0)) (verdict-encode n [] s refl, active-encode n [] s)

@@ -10,4 +10,5 @@ pub mod Inverse
 pub mod WrittenLaws
 pub mod Demands
 pub mod Unique
+pub mod Claims
 pub mod Cases

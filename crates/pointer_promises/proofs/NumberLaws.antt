@@ -1,21 +1,21 @@
 -- Laws of the numbers that are answered: what a 0 tells. Assumes nothing.
-use mathlib.Core.Path.{subst, _≡_, refl, sym}
+use mathlib.Core.Path.{_≡_, refl, sym}
 use mathlib.Core.Bool.{Bool, true, false, cond, _&&_}
-use mathlib.Core.List.{List}
+use mathlib.Core.List.{List, []}
 use mathlib.Core.Logic.{_↔_, ⊎-elim}
 use Prim.Native.Nat.{ℕ, _+_, _≤_, _<_}
 use native.Mathlib.Omega.{arith}
 use borrow.Author.Tests.{leb-true, le-leb, lt-leb, eqb-true, eq-eqb}
-use lib.Dec.{eqb, leb}
+use lib.Dec.{eqb, leb, lit<}
 use lib.ListN.{length}
-use Rattle.bits.specs.Lowest.{Lowest}
+use Rattle.bits.specs.First.{Refusal, First}
 use Rattle.bits.proofs.TestLaws.{lt-or-le, and-in, and-left, and-right, eqb-iff, false-iff, iff-stable}
-use Rattle.bits.proofs.LowestLaws.{lowest-is}
+use Rattle.bits.proofs.FirstLaws.{hit, miss, last, NoneOf, Numbered, accepted}
 use Rattle.pointer_promises.specs.Pointer.{size, spare, active, formed, held, repeats, measured, verdict, readNumber, needed, writeNumber}
-use Rattle.pointer_promises.specs.Refusals.{InRange, WellFormed, outOfRange, wrongLength, notFormed, samePointer, noEntry, Refused, WriteRefused}
+use Rattle.pointer_promises.specs.Refusals.{InRange, WriteLengths, Spare, WellFormed, NamedTwice, rowRefusals, writeRefusals}
 use Rattle.pointer_promises.proofs.FormedLaws.{formed-iff}
 use Rattle.pointer_promises.proofs.ServedLaws.{twice-iff, none-left-iff}
-use Rattle.pointer_promises.proofs.RefusalLaws.{range-iff, from-6, read-lowest, write-lowest}
+use Rattle.pointer_promises.proofs.RefusalLaws.{range-iff, read-first, write-first}
 
 -- ---- n and the lengths
 
@@ -83,34 +83,36 @@ verdict-zero n m h = let (a, b, c) = go (spare n m) (formed n m) (repeats (held 
     go false true false h = (refl, refl, refl)
     go false false c h = absurd (omega arith)
 
--- ---- what it tells that a refusal does not apply
+-- ---- what it tells that no refusal applies
 
 pub record Passed (n : ℕ) (m : List ℕ) : Type 0 where
   pub range : InRange n
   pub forms : WellFormed n m
   pub differs : repeats (held n m) ≡ false
 
-pub passed : (Lengths : Type 0) (n : ℕ) (m : List ℕ) (Full : Type 0) → ((x : ℕ) → x < 6 → Refused Lengths n m Full x → ⊥) → Passed n m
-passed Lengths n m Full h =
-    let range : InRange n = iff-stable _ (range-iff n) (λ q. h 1 (omega arith) (outOfRange q)) in
-    let forms : WellFormed n m = iff-stable _ (formed-iff n m range) (λ q. h 4 (omega arith) (notFormed q)) in
-    record { range = range; forms = forms; differs = false-iff _ (twice-iff n m range forms) (λ q. h 5 (omega arith) (samePointer q)) }
+-- a call that answers 0: the lengths too are right, and none of its other refusals applies
+row-passed : (Lengths : Type 0) (n : ℕ) (m : List ℕ) (others : List Refusal) (x : ℕ) → Numbered others → First (rowRefusals Lengths n m others) x → x ≡ 0
+    → Passed n m × ((Lengths → ⊥) → ⊥) × NoneOf others
+row-passed Lengths n m others x u f z = go (accepted _ x (lit< tt, (lit< tt, (lit< tt, (lit< tt, (lit< tt, u))))) f z)
+  where
+    go : NoneOf (rowRefusals Lengths n m others) → Passed n m × ((Lengths → ⊥) → ⊥) × NoneOf others
+    go (p, (q, (r, (s, (t, rest))))) =
+        let range : InRange n = iff-stable _ (range-iff n) p in
+        let forms : WellFormed n m = iff-stable _ (formed-iff n m range) s in
+        (record { range = range; forms = forms; differs = false-iff _ (twice-iff n m range forms) t }, q, rest)
 
 pub read-passed : (n cells : ℕ) (m : List ℕ) (out : ℕ) → readNumber n cells m out ≡ 0 → Passed n m
-read-passed n cells m out z = passed _ n m _ (λ x _. read-lowest n cells m out .none z x)
+read-passed n cells m out z = row-passed _ n m [] _ tt (read-first n cells m out) z .0
 
 module _ (n : ℕ) (wanted mask values : List ℕ) (cells : ℕ) (m : List ℕ) where
-  abbrev Refuses : ℕ → Type 0
-  Refuses = WriteRefused n wanted mask values cells m
-
   -- none of 1 to 5 applies: 6 exactly where the active entries and the unserved positions are more than n
-  pub full-exactly : (k : ℕ) → Lowest Refuses k → ((x : ℕ) → x < 6 → Refuses x → ⊥) → (k ≡ 6) ↔ (n < active n m + needed wanted mask values (held n m))
-  full-exactly k r h =
-      let p : Passed n m = passed _ n m _ h in
-      let (to, from) = none-left-iff n m (p .range) (p .forms) wanted mask values in (
-        λ e. from (from-6 _ n m _ (subst Refuses e (r .applies (omega arith)))),
-        λ l. lowest-is Refuses k 6 r (noEntry (to l)) h,
-      )
+  pub full-exactly : (k : ℕ) → First (writeRefusals n wanted mask values cells m) k → InRange n
+      → WriteLengths n (length wanted) (length mask) (length values) cells (length m) → (Spare n m → ⊥) → WellFormed n m → (NamedTwice n m → ⊥)
+      → (k ≡ 6) ↔ (n < active n m + needed wanted mask values (held n m))
+  full-exactly k r range lengths clear forms differ =
+      let rest = miss (miss (miss (miss (miss r (λ h. h range)) (λ h. h lengths)) clear) (λ h. h forms)) differ in
+      let (to, from) = none-left-iff n m range forms wanted mask values in
+      (λ e. from (last rest (omega arith)), λ l. hit rest (to l))
 
   -- what an accepted write tells
   pub record Accepted : Type 0 where
@@ -120,12 +122,10 @@ module _ (n : ℕ) (wanted mask values : List ℕ) (cells : ℕ) (m : List ℕ) 
 
   pub write-zero : writeNumber n wanted mask values cells m ≡ 0 → Accepted
   write-zero z =
-      let none : (x : ℕ) → Refuses x → ⊥ = write-lowest n wanted mask values cells m .none z in
-      let p : Passed n m = passed _ n m _ (λ x _. none x) in
-      let over : n < active n m + needed wanted mask values (held n m) → ⊥ =
-      λ l. none 6 (noEntry (none-left-iff n m (p .range) (p .forms) wanted mask values .0 l)) in
+      let (j, sized, (left, _)) = row-passed _ n m _ _ (lit< tt, tt) (write-first n wanted mask values cells m) z in
+      let over : n < active n m + needed wanted mask values (held n m) → ⊥ = λ l. left (none-left-iff n m (j .range) (j .forms) wanted mask values .0 l) in
       record {
-        judged = p;
-        long = iff-stable _ (eqb-iff (length wanted) 64) (λ q. none 2 (wrongLength (λ r. q (r .dataBytes))));
+        judged = j;
+        long = iff-stable _ (eqb-iff (length wanted) 64) (λ h. sized (λ l. h (l .dataBytes)));
         few = ⊎-elim (λ l. absurd (over l)) (λ l. l) (lt-or-le n (active n m + needed wanted mask values (held n m)));
       }

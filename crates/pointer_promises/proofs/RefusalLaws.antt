@@ -1,17 +1,18 @@
--- The number of a call is the lowest refusal that applies. Assumes nothing.
+-- The number of a call is the first refusal that applies, and that is the lowest. Assumes nothing.
 use mathlib.Core.Path.{_≡_, refl, sym, subst}
 use mathlib.Core.Bool.{Bool, true, false, not, cond, _&&_}
-use mathlib.Core.List.{List}
+use mathlib.Core.List.{List, [], _∷_}
 use mathlib.Core.Logic.{_↔_, Iff·trans}
-use Prim.Native.Nat.{ℕ, zero, suc, _≤_}
+use Prim.Native.Nat.{ℕ, zero, suc}
 use native.Mathlib.Omega.{arith}
 use lib.Dec.{eqb}
 use lib.ListN.{length}
-use Rattle.bits.specs.Lowest.{Lowest}
-use Rattle.bits.proofs.TestLaws.{clash, leb-iff, ltb-iff, eqb-iff, iff-stable, not-iff, and-iff}
-use Rattle.bits.proofs.LowestLaws.{From, test-first, from-none, from-first}
+use Rattle.bits.specs.First.{Refusal, _when_, First}
+use Rattle.bits.proofs.TestLaws.{leb-iff, ltb-iff, eqb-iff, iff-stable, not-iff, and-iff}
+use Rattle.bits.proofs.FirstLaws.{first-test, first-none, rising-lowest}
 use Rattle.pointer_promises.specs.Pointer.{size, spare, formed, held, repeats, orElse, inRange, measured, verdict, readNumber, writeJudged, writeNumber}
-use Rattle.pointer_promises.specs.Refusals.{InRange, Fewest, ReadLengths, WriteLengths, Spare, WellFormed, NamedTwice, NoneLeft, Refused, outOfRange, wrongLength, spareBit, notFormed, samePointer, noEntry, ReadRefused, WriteRefused}
+use Rattle.pointer_promises.specs.Refusals.{InRange, Fewest, ReadLengths, WriteLengths, WellFormed, NoneLeft, rowRefusals, readRefusals, writeRefusals}
+use Rattle.pointer_promises.specs.Theorems.{ReadLowest, WriteLowest}
 use Rattle.pointer_promises.proofs.FormedLaws.{size-iff, spare-iff, formed-iff}
 use Rattle.pointer_promises.proofs.ServedLaws.{twice-iff, none-left-iff}
 
@@ -46,79 +47,49 @@ verdict-first n m k false true false p q r = rw (p, q, r)
 
 -- ---- one cascade for both calls
 
-module _ (Lengths : Type 0) (n : ℕ) (m : List ℕ) (Full : Type 0) where
-  abbrev P : ℕ → Type 0
-  P = Refused Lengths n m Full
-
-  from-1 : P 1 → InRange n → ⊥
-  from-1 (outOfRange h) = h
-
-  from-2 : P 2 → Lengths → ⊥
-  from-2 (wrongLength h) = h
-
-  from-3 : P 3 → Spare n m
-  from-3 (spareBit h) = h
-
-  from-4 : P 4 → WellFormed n m → ⊥
-  from-4 (notFormed h) = h
-
-  from-5 : P 5 → NamedTwice n m
-  from-5 (samePointer h) = h
-
-  pub from-6 : P 6 → Full
-  from-6 (noEntry h) = h
-
-  some-number : (y : ℕ) → P y → (1 ≤ y) × (y ≤ 6)
-  some-number y (outOfRange h) = (omega arith, omega arith)
-  some-number y (wrongLength h) = (omega arith, omega arith)
-  some-number y (spareBit h) = (omega arith, omega arith)
-  some-number y (notFormed h) = (omega arith, omega arith)
-  some-number y (samePointer h) = (omega arith, omega arith)
-  some-number y (noEntry h) = (omega arith, omega arith)
-
-  measured-from : (fixed : Bool) (k : ℕ) → (fixed && eqb (length m) (size n) ≡ true) ↔ Lengths → (InRange n → Lengths → From P 3 k) → From P 1 (orElse (measured n fixed (length m)) k)
-  measured-from fixed k f r =
-      subst (From P 1) (sym (measured-first n fixed (length m) k (inRange n) (fixed && eqb (length m) (size n)) refl refl))
-      (test-first P 1 _ _ (omega arith) (Iff·trans (not-iff _ (range-iff n)) (outOfRange, from-1)) (λ p.
-      test-first P 2 _ _ (omega arith) (Iff·trans (not-iff _ f) (wrongLength, from-2)) (λ q.
-      r (iff-stable _ (range-iff n) (λ h. p (outOfRange h))) (iff-stable _ f (λ h. q (wrongLength h))))))
-
-  verdict-from : (k : ℕ) → InRange n → length m ≡ size n → (WellFormed n m → From P 6 k) → From P 3 (orElse (verdict n m) k)
-  verdict-from k range long r =
-      subst (From P 3) (sym (verdict-first n m k (spare n m) (formed n m) (repeats (held n m)) refl refl refl))
-      (test-first P 3 _ _ (omega arith) (Iff·trans (spare-iff n m long) (spareBit, from-3)) (λ _.
-      test-first P 4 _ _ (omega arith) (Iff·trans (not-iff _ (formed-iff n m range)) (notFormed, from-4)) (λ p.
-      let f : WellFormed n m = iff-stable _ (formed-iff n m range) (λ h. p (notFormed h)) in
-      test-first P 5 _ _ (omega arith) (Iff·trans (twice-iff n m range f) (samePointer, from-5)) (λ _. r f))))
-
-  -- `fixed` tests the lengths of the buffers of 64 bytes, and t whether more entries are needed than there are
-  refused-lowest : (fixed t : Bool) (Fixed : Type 0) → (fixed ≡ true) ↔ Fixed → (Fixed × Fewest n (length m)) ↔ Lengths → (InRange n → WellFormed n m → (t ≡ true) ↔ Full)
-      → Lowest P (orElse (measured n fixed (length m)) (orElse (verdict n m) (cond t 6 0)))
-  refused-lowest fixed t Fixed f g h =
-      from-first P _ (λ y p. some-number y p .0)
-      (measured-from fixed _ (Iff·trans (and-iff fixed f _ (Iff·trans (eqb-iff (length m) (size n)) (size-iff n (length m)))) g) (λ range sized.
-      verdict-from _ range (size-iff n (length m) .1 (g .1 sized .1)) (λ formed.
-      test-first P 6 0 t (omega arith) (Iff·trans (h range formed) (noEntry, from-6)) (λ _.
-      from-none P 7 (λ y q p. omega (arith, some-number y p))))))
+module _ (Lengths : Type 0) (n : ℕ) (m : List ℕ) (others : List Refusal) where
+  -- `fixed` tests the lengths of the buffers of 64 bytes, and k is the first of the others that applies
+  row-first : (fixed : Bool) (Fixed : Type 0) (k : ℕ) → (fixed ≡ true) ↔ Fixed → (Fixed × Fewest n (length m)) ↔ Lengths → (InRange n → WellFormed n m → First others k)
+      → First (rowRefusals Lengths n m others) (orElse (measured n fixed (length m)) (orElse (verdict n m) k))
+  row-first fixed Fixed k f g r =
+      let lengths = Iff·trans (and-iff fixed f _ (Iff·trans (eqb-iff (length m) (size n)) (size-iff n (length m)))) g in
+      subst (First _) (sym (measured-first n fixed (length m) _ (inRange n) (fixed && eqb (length m) (size n)) refl refl))
+      (first-test 1 _ _ _ _ (not-iff _ (range-iff n)) (λ p.
+      let range : InRange n = iff-stable _ (range-iff n) p in
+      first-test 2 _ _ _ _ (not-iff _ lengths) (λ q.
+      let long : length m ≡ size n = size-iff n (length m) .1 (g .1 (iff-stable _ lengths q) .1) in
+      subst (First _) (sym (verdict-first n m k (spare n m) (formed n m) (repeats (held n m)) refl refl refl))
+      (first-test 3 _ _ _ _ (spare-iff n m long) (λ _.
+      first-test 4 _ _ _ _ (not-iff _ (formed-iff n m range)) (λ v.
+      let forms : WellFormed n m = iff-stable _ (formed-iff n m range) v in
+      first-test 5 _ _ _ _ (twice-iff n m range forms) (λ _. r range forms)))))))
 
 -- ---- the two calls
 
-pub read-lowest : (n cells : ℕ) (m : List ℕ) (out : ℕ) → Lowest (ReadRefused n cells m out) (readNumber n cells m out)
+pub read-first : (n cells : ℕ) (m : List ℕ) (out : ℕ) → First (readRefusals n cells m out) (readNumber n cells m out)
 unfolding readNumber
-read-lowest n cells m out =
-    subst (λ k. Lowest (ReadRefused n cells m out) (orElse (measured n (eqb cells 64 && eqb out 64) (length m)) k)) (or-else-none (verdict n m))
-    (refused-lowest (ReadLengths n cells (length m) out) n m ⊥ (eqb cells 64 && eqb out 64) false _ (and-iff _ (eqb-iff _ _) _ (eqb-iff _ _))
+read-first n cells m out =
+    subst (λ k. First (readRefusals n cells m out) (orElse (measured n (eqb cells 64 && eqb out 64) (length m)) k)) (or-else-none (verdict n m))
+    (row-first (ReadLengths n cells (length m) out) n m [] (eqb cells 64 && eqb out 64) _ 0 (and-iff _ (eqb-iff _ _) _ (eqb-iff _ _))
     (λ ((x, y), z). record { cellBytes = x; metadataBytes = z; outBytes = y }, λ r. ((r .cellBytes, r .outBytes), r .metadataBytes))
-    (λ _ _. (λ h. clash h refl, λ h. absurd h)))
+    (λ _ _. first-none))
 
 module _ (n : ℕ) (wanted mask values : List ℕ) (cells : ℕ) (m : List ℕ) where
-  pub write-lowest : Lowest (WriteRefused n wanted mask values cells m) (writeNumber n wanted mask values cells m)
+  pub write-first : First (writeRefusals n wanted mask values cells m) (writeNumber n wanted mask values cells m)
   unfolding writeNumber writeJudged
-  write-lowest =
-      subst (Lowest (WriteRefused n wanted mask values cells m)) (sym (or-else-assoc (measured n _ (length m)) (verdict n m) _))
-      (refused-lowest (WriteLengths n (length wanted) (length mask) (length values) cells (length m)) n m (NoneLeft n wanted mask values m) _ _ _
+  write-first =
+      subst (First (writeRefusals n wanted mask values cells m)) (sym (or-else-assoc (measured n _ (length m)) (verdict n m) _))
+      (row-first (WriteLengths n (length wanted) (length mask) (length values) cells (length m)) n m ((6 when NoneLeft n wanted mask values m) ∷ []) _ _ _
       (and-iff _ (and-iff _ (and-iff _ (eqb-iff _ _) _ (eqb-iff _ _)) _ (eqb-iff _ _)) _ (eqb-iff _ _)) (
         λ ((((w, k), v), c), z). record { dataBytes = w; maskBytes = k; valueBytes = v; cellBytes = c; metadataBytes = z },
         λ r. ((((r .dataBytes, r .maskBytes), r .valueBytes), r .cellBytes), r .metadataBytes),
       )
-      (λ range formed. Iff·trans (ltb-iff _ _) (none-left-iff n m range formed wanted mask values)))
+      (λ range formed. first-test 6 0 _ [] _ (Iff·trans (ltb-iff _ _) (none-left-iff n m range formed wanted mask values)) (λ _. first-none)))
+
+-- ---- the numbers rise
+
+pub read-lowest : ReadLowest
+read-lowest n cells m out a out′ r = rising-lowest _ _ refl .0 (r .first)
+
+pub write-lowest : WriteLowest
+write-lowest n wanted mask values cells m a cells′ m′ w = rising-lowest _ _ refl .0 (w .first)

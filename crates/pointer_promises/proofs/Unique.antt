@@ -11,27 +11,20 @@ use Rattle.bits.specs.Bits.{num, at, bytes}
 use Rattle.bits.proofs.BoundLaws.{sum-ext}
 use Rattle.bits.proofs.ByteLaws.{bytes-ext}
 use Rattle.pointer_promises.specs.Pointer.{held, names, unserved, renewed, after, activeAfter, stored, encode, readNumber, needed, writeJudged, writeNumber}
-use Rattle.pointer_promises.specs.Promises.{Read, Write}
-use Rattle.pointer_promises.specs.declared.ReadAnswer.{ReadAnswer}
+use Rattle.pointer_promises.specs.Promises.{Write}
+use Rattle.pointer_promises.specs.Theorems.{ReadUnique, WritesAlike, WriteUnique, OutputMeasured, OldMeasured, SoundValues}
 use Rattle.pointer_promises.specs.declared.WriteAnswer.{WriteAnswer}
 use Rattle.pointer_promises.proofs.PositionLaws.{positions-ext}
 
-pub read-unique : (n : ℕ) (cells m out : List ℕ) (a b : ReadAnswer) (o p : List ℕ) → Read n cells m out a o → Read n cells m out b p → (a ≡ b) × (o ≡ p)
-read-unique n cells m out a b o p r s = (λ i. record { number = number i }, go (ℕ-discrete (a .number) 0))
-  where
-    number : a .number ≡ b .number
-    number = r .number ∙ sym (s .number)
-
-    go : Dec (a .number ≡ 0) → o ≡ p
-    go (yes z) = r .filled z ∙ sym (s .filled (sym number ∙ z))
-    go (no z) = r .refused z ∙ sym (s .refused (λ y. z (number ∙ y)))
-
--- of the output only the length counts: reads into others of that length answer the same and, where accepted, fill them the same
-pub output-measured : (n : ℕ) (cells m out out₂ : List ℕ) (a b : ReadAnswer) (o p : List ℕ) → length out ≡ length out₂ → Read n cells m out a o → Read n cells m out₂ b p
-    → (a ≡ b) × (a .number ≡ 0 → o ≡ p)
+pub output-measured : OutputMeasured
 output-measured n cells m out out₂ a b o p e r s =
     let number : a .number ≡ b .number = r .number ∙ ap (readNumber n (length cells) m) e ∙ sym (s .number) in
     (λ i. record { number = number i }, λ z. r .filled z ∙ sym (s .filled (sym number ∙ z)))
+
+pub read-unique : ReadUnique
+read-unique n cells m out a b o p r s =
+    let (x, y) = output-measured n cells m out out a b o p refl r s in
+    (x, elim (ℕ-discrete (a .number) 0) [ yes z ↦ y z | no z ↦ r .refused z ∙ sym (s .refused (λ h. z (ap (λ c. c .number) x ∙ h))) ])
 
 -- over two calls whose definitions agree: with the same arguments they do
 module _ (n : ℕ) (wanted mask values values₂ cells cells₂ m : List ℕ)
@@ -65,15 +58,12 @@ module _ (n : ℕ) (wanted mask values values₂ cells cells₂ m : List ℕ)
           let (p₂, q₂, u₂, v₂) = s .refused (λ y. z (number ∙ y)) in
           (λ i. record { number = number i; active = (p ∙ sym p₂) i; new = (q ∙ sym q₂) i }, ⊎-elim (λ y. absurd (z y)) (λ e. u ∙ e ∙ sym u₂), v ∙ sym v₂)
 
-pub write-unique : (n : ℕ) (wanted mask values cells m : List ℕ) (a b : WriteAnswer) (c d k l : List ℕ) → Write n wanted mask values cells m a c k
-    → Write n wanted mask values cells m b d l → (a ≡ b) × (c ≡ d) × (k ≡ l)
+pub write-unique : WriteUnique
 write-unique n wanted mask values cells m a b c d k l r s =
     let (x, y, z) = same n wanted mask values values cells cells m refl refl refl refl a b c d k l r s in (x, y (inr refl), z)
 
--- of the old cells only the length counts
-pub old-measured : (n : ℕ) (wanted mask values cells cells₂ m : List ℕ) (a b : WriteAnswer) (c d k l : List ℕ) → length cells ≡ length cells₂
-    → Write n wanted mask values cells m a c k → Write n wanted mask values cells₂ m b d l → (a ≡ b) × (a .number ≡ 0 → c ≡ d) × (k ≡ l)
-old-measured n wanted mask values cells cells₂ m a b c d k l e r s =
+pub old-measured : OldMeasured
+old-measured n wanted mask values m cells cells₂ a b c d k l e r s =
     let (x, y, z) = same n wanted mask values values cells cells₂ m (ap (λ g. writeNumber n wanted mask values g m) e) refl refl refl a b c d k l r s in
     (x, λ h. y (inl h), z)
 
@@ -111,9 +101,12 @@ module _ (n : ℕ) (wanted mask values values₂ cells m : List ℕ) (long : len
   entries-same =
       ap (λ ps. map (renewed wanted) (held n m ++ ps)) (positions-ext 512 (unserved wanted mask values (held n m)) (unserved wanted mask values₂ (held n m)) unserved-same)
 
-  pub sound-values : (a b : WriteAnswer) (c d k l : List ℕ) → Write n wanted mask values cells m a c k → Write n wanted mask values₂ cells m b d l → (a ≡ b) × (c ≡ d) × (k ≡ l)
-  sound-values a b c d k l r s =
+  same-where-stuck : WritesAlike (Write n wanted mask values cells m) (Write n wanted mask values₂ cells m)
+  same-where-stuck a b c d k l r s =
       let (x, y, z) =
       same n wanted mask values values₂ cells cells m number-same (bytes-ext 64 (stored wanted mask values) (stored wanted mask values₂) stored-same) entries-same needed-same a b c
       d k l r s in
       (x, y (inr refl), z)
+
+pub sound-values : SoundValues
+sound-values = same-where-stuck

@@ -1,5 +1,5 @@
 -- What the two calls promise, for every argument. What a write is to store, its data, is called `wanted`; a name with a prime is a buffer at exit.
--- proofs/Unique.antt shows that no second answer keeps them. Assumes nothing.
+-- Theorems.antt says that no second answer keeps them. Assumes nothing.
 use Prim.Native.Nat.{ℕ, _+_, _*_, _≤_, _<_}
 use mathlib.Core.Path.{_≡_}
 use mathlib.Core.Bool.{true, false}
@@ -7,17 +7,17 @@ use mathlib.Core.List.{List}
 use mathlib.Core.Logic.{_↔_, _≢_}
 use lib.ListN.{length}
 use Rattle.bits.specs.Bits.{at, bytes}
-use Rattle.bits.specs.Lowest.{Lowest}
+use Rattle.bits.specs.First.{First}
 use Rattle.pointer_promises.specs.Pointer.{pointer, replacement, entry, active, held, shown, after, activeAfter, stored, encode, readNumber, needed, writeNumber}
-use Rattle.pointer_promises.specs.Refusals.{Active, Names, Unserved, ReadRefused, WriteRefused}
+use Rattle.pointer_promises.specs.Refusals.{InRange, WriteLengths, Spare, Active, WellFormed, Names, NamedTwice, Unserved, readRefusals, writeRefusals}
 use Rattle.pointer_promises.specs.declared.ReadAnswer.{ReadAnswer}
 use Rattle.pointer_promises.specs.declared.WriteAnswer.{WriteAnswer}
 
 pub record Read (n : ℕ) (cells metadata out : List ℕ) (answer : ReadAnswer) (out′ : List ℕ) : Type 0 where
   -- the number, computed
   pub number : answer .number ≡ readNumber n (length cells) metadata (length out)
-  -- the lowest refusal that applies, or 0 where none does
-  pub lowest : Lowest (ReadRefused n (length cells) metadata (length out)) (answer .number)
+  -- the first refusal that applies, or 0 where none does
+  pub first : First (readRefusals n (length cells) metadata (length out)) (answer .number)
   -- a refusal alters nothing
   pub refused : answer .number ≢ 0 → out′ ≡ out
   -- else each position's bit is what it shows
@@ -29,8 +29,8 @@ pub record Read (n : ℕ) (cells metadata out : List ℕ) (answer : ReadAnswer) 
 pub record Write (n : ℕ) (wanted mask values cells metadata : List ℕ) (answer : WriteAnswer) (cells′ metadata′ : List ℕ) : Type 0 where
   -- the number, computed
   pub number : answer .number ≡ writeNumber n wanted mask values (length cells) metadata
-  -- the lowest refusal that applies, or 0 where none does
-  pub lowest : Lowest (WriteRefused n wanted mask values (length cells) metadata) (answer .number)
+  -- the first refusal that applies, or 0 where none does
+  pub first : First (writeRefusals n wanted mask values (length cells) metadata) (answer .number)
   -- a refusal alters nothing and counts nothing
   pub refused : answer .number ≢ 0 → (answer .active ≡ 0) × (answer .new ≡ 0) × (cells′ ≡ cells) × (metadata′ ≡ metadata)
   -- else the cells, the metadata and the counts are exactly these
@@ -38,7 +38,8 @@ pub record Write (n : ℕ) (wanted mask values cells metadata : List ℕ) (answe
   pub encodes : answer .number ≡ 0 → metadata′ ≡ encode n (after wanted mask values (held n metadata))
   pub counts : answer .number ≡ 0 → (answer .active ≡ activeAfter n wanted mask values metadata) × (answer .new ≡ needed wanted mask values (held n metadata))
   -- where none of 1 to 5 applies: 6 exactly where the active entries and the unserved positions are more than n
-  pub full : ((x : ℕ) → x < 6 → WriteRefused n wanted mask values (length cells) metadata x → ⊥) → (answer .number ≡ 6) ↔ (n < active n metadata + needed wanted mask values (held n metadata))
+  pub full : InRange n → WriteLengths n (length wanted) (length mask) (length values) (length cells) (length metadata) → (Spare n metadata → ⊥)
+      → WellFormed n metadata → (NamedTwice n metadata → ⊥) → (answer .number ≡ 6) ↔ (n < active n metadata + needed wanted mask values (held n metadata))
   -- a sound cell takes its wanted bit, a stuck one holds its stuck value
   pub sound : answer .number ≡ 0 → (p : ℕ) → p < 512 → at mask p ≡ false → at cells′ p ≡ at wanted p
   pub stuck : answer .number ≡ 0 → (p : ℕ) → p < 512 → at mask p ≡ true → at cells′ p ≡ at values p

@@ -3,10 +3,11 @@
 use Prim.Native.Nat.{ℕ, _+_, _*_, _<_, _≤_}
 use mathlib.Core.Path.{_≡_}
 use mathlib.Core.Bool.{true, false, not}
-use mathlib.Core.List.{List}
+use mathlib.Core.List.{List, [], _∷_}
 use mathlib.Core.Logic.{_⊎_}
 use lib.ListN.{length}
 use Rattle.bits.specs.Bits.{has, at}
+use Rattle.bits.specs.First.{Refusal, _when_}
 
 -- ---- n and the lengths
 
@@ -90,21 +91,18 @@ pub record NoneLeft (n : ℕ) (wanted mask values m : List ℕ) : Type 0 where
   pub rising : (i j : ℕ) → i < j → j < u → position i < position j
   pub exceed : n < a + u
 
--- ---- the refusals, each by its number
+-- ---- the refusals, in the order in which they are judged
 
-pub data Refused (Lengths : Type 0) (n : ℕ) (m : List ℕ) (Full : Type 0) : ℕ → Type 0 where
-  outOfRange : (InRange n → ⊥) → Refused Lengths n m Full 1
-  wrongLength : (Lengths → ⊥) → Refused Lengths n m Full 2
-  spareBit : Spare n m → Refused Lengths n m Full 3
-  notFormed : (WellFormed n m → ⊥) → Refused Lengths n m Full 4
-  samePointer : NamedTwice n m → Refused Lengths n m Full 5
-  noEntry : Full → Refused Lengths n m Full 6
+-- those that a read and a write share, and then others. `Lengths` says that every lent buffer is as long as it should be
+abbrev pub rowRefusals : Type 0 → ℕ → List ℕ → List Refusal → List Refusal
+rowRefusals Lengths n m others =
+    (1 when (InRange n → ⊥)) ∷ (2 when (Lengths → ⊥)) ∷ (3 when Spare n m) ∷ (4 when (WellFormed n m → ⊥)) ∷ (5 when NamedTwice n m) ∷ others
 
--- of a read, which needs no entry: of the cells and the output only the lengths count
-abbrev pub ReadRefused : ℕ → ℕ → List ℕ → ℕ → ℕ → Type 0
-ReadRefused n cells m out = Refused (ReadLengths n cells (length m) out) n m ⊥
+-- of a read: of the cells and the output only the lengths count
+abbrev pub readRefusals : (n cells : ℕ) (m : List ℕ) (out : ℕ) → List Refusal
+readRefusals n cells m out = rowRefusals (ReadLengths n cells (length m) out) n m []
 
 -- of a write: of the old cells only the length counts
-abbrev pub WriteRefused : ℕ → List ℕ → List ℕ → List ℕ → ℕ → List ℕ → ℕ → Type 0
-WriteRefused n wanted mask values cells m =
-    Refused (WriteLengths n (length wanted) (length mask) (length values) cells (length m)) n m (NoneLeft n wanted mask values m)
+abbrev pub writeRefusals : ℕ → (wanted mask values : List ℕ) (cells : ℕ) (m : List ℕ) → List Refusal
+writeRefusals n wanted mask values cells m =
+    rowRefusals (WriteLengths n (length wanted) (length mask) (length values) cells (length m)) n m ((6 when NoneLeft n wanted mask values m) ∷ [])
