@@ -1,4 +1,4 @@
--- The crate's theorems, proved. Assumes nothing.
+-- The theorems of this crate, all proved. Assumes nothing.
 use Rattle.bits.specs.Claims.{Claims}
 use Rattle.bits.proofs.FirstLaws.{rising-lowest}
 

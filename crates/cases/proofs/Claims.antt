@@ -1,4 +1,4 @@
--- The crate's theorems, proved. Assumes nothing.
+-- The theorems of this crate, all proved. Assumes nothing.
 use Rattle.cases.specs.Claims.{Claims}
 use Rattle.cases.proofs.Checked.{every-case, every-edge, every-promise}
 use Rattle.cases.proofs.Loops.{any-length, never-masked, alternating, no-chain}

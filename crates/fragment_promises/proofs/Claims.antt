@@ -1,4 +1,4 @@
--- The theorems of this room, all proved. Assumes nothing.
+-- The theorems of this crate, all proved. Assumes nothing.
 use Rattle.fragment_promises.specs.Claims.{Claims}
 use Rattle.fragment_promises.proofs.StepLaws.{one-start, one-lump, one-start-by-demands, one-lump-by-demands, start-lowest, lump-lowest}
 use Rattle.fragment_promises.proofs.FinishLaws.{one-finish, one-finish-by-demands, finish-measured}

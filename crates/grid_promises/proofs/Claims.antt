@@ -1,4 +1,4 @@
--- The theorems of this room, all proved. Assumes nothing.
+-- The theorems of this crate, all proved. Assumes nothing.
 use Rattle.grid_promises.specs.Claims.{Claims}
 use Rattle.grid_promises.proofs.PlanDemands.{bound-follows}
 use Rattle.grid_promises.proofs.OneAnswer.{one-read, one-plan, one-store, output-measured, old-counters-measured, old-cells-measured, plan-ignores-sound, store-ignores-sound}

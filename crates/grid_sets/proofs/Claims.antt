@@ -1,4 +1,4 @@
--- The theorems of this room, all proved. Assumes nothing.
+-- The theorems of this crate, all proved. Assumes nothing.
 use Rattle.grid_sets.specs.Claims.{Claims}
 use Rattle.grid_sets.proofs.Demands.{reads-back, one-unpack, one-pack, one-convert}
 

@@ -1,4 +1,4 @@
--- The crate's theorems, proved. Assumes nothing.
+-- The theorems of this crate, all proved. Assumes nothing.
 use Rattle.pointer_promises.specs.Claims.{Claims}
 use Rattle.pointer_promises.proofs.Demands.{read-exists, write-exists}
 use Rattle.pointer_promises.proofs.RefusalLaws.{read-lowest, write-lowest}

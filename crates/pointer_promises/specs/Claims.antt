@@ -1,4 +1,4 @@
--- Every theorem of this crate, a field each. Assumes nothing.
+-- Every theorem of this crate, a field each: proofs/Claims.antt has the value, so one that loses its proof fails the check. Assumes nothing.
 use Rattle.pointer_promises.specs.Theorems.{ReadUnique, WriteUnique, ReadExists, WriteExists, ReadLowest, WriteLowest, OutputMeasured, OldMeasured, SoundValues, DecodeEncode, EncodeDecode, FreshRow}
 
 pub record Claims : Type 0 where

@@ -1,4 +1,4 @@
--- The theorems of this room, all proved. Assumes nothing.
+-- The theorems of this crate, all proved. Assumes nothing.
 use Rattle.rdis.specs.Claims.{Claims}
 use Rattle.rdis.proofs.LevelLaws.{refused-by-chain, more-allowed, levels-by-chain, one-depth, no-chain-empty}
 use Rattle.rdis.proofs.CounterLaws.{wrong-where-flipped, counters-at-most, levels-reached}
