@@ -1,6 +1,8 @@
+pub mod StuckLaws
+pub mod CountLaws
 pub mod LevelLaws
 pub mod DescendLaws
-pub mod CountLaws
+pub mod FirstLaws
 pub mod Returns
 pub mod ShowLaws
 pub mod MisreadLaws

@@ -2,19 +2,19 @@
 use Prim.Native.Nat.{ℕ, _+_, _≤_, _<_}
 use mathlib.Core.Path.{_≡_, refl, sym, ap, ap₂, subst, _∙_}
 use mathlib.Core.Bool.{true, false, not, cond}
-use mathlib.Core.List.{List, _++_}
+use mathlib.Core.List.{List, [], _++_}
 use native.Mathlib.Omega.{arith}
-use lib.ListN.{length, getD}
-use Rattle.bits.specs.Bits.{num, sum, list, has}
+use lib.ListN.{length}
+use Rattle.bits.specs.Bits.{sum, list}
 use Rattle.bits.proofs.BoundLaws.{list-ext}
 use Rattle.rdis.specs.Block.{Block}
-use Rattle.rdis.specs.Levels.{Outcome, masked, unmaskable, plan}
+use Rattle.rdis.specs.Levels.{whole, Outcome, masked, unmaskable, plan}
 use Rattle.rdis.specs.Packing.{width, inOrder, packed}
 use Rattle.rdis.proofs.PackingLaws.{width-holds}
 use Rattle.grid_sets.specs.Sets.{times}
 use Rattle.grid_sets.specs.Promises.{packable, Pack}
 use Rattle.grid_sets.proofs.RoomLaws.{can-pack}
-use Rattle.grid_counters.proofs.PromiseLaws.{cleared, packed-one}
+use Rattle.grid_counters.proofs.PromiseLaws.{cleared}
 use Rattle.grid_promises.specs.Calls.{inRange, block, planSized, planPast, planNumber}
 use Rattle.grid_promises.specs.Refusals.{PlanLengths}
 use Rattle.grid_promises.specs.Promises.{Plan}
@@ -22,7 +22,9 @@ use Rattle.grid_promises.specs.declared.Answer.{Answer}
 use Rattle.grid_promises.proofs.RefusalLaws.{in-range, plan-sized}
 use Rattle.grid_promises.proofs.PlanDemands.{plan-demands}
 use Rattle.grid_checks.specs.Numbers.{judged, planJudged}
-use Rattle.grid.specs.Steps.{blockOf, PlanSized, Counts, Follows, Refuses, Accepts}
+use Rattle.grid.specs.Steps.{blockOf, PlanSized, firstOf, Counts, Follows, Planned, Refuses, Accepts, answerOf, Begins}
+use Rattle.grid.specs.declared.levels.First.{First}
+use Rattle.grid.proofs.DescendLaws.{planned-none}
 use Rattle.grid.proofs.Returns.{stands, passes, mask-inside}
 
 refused-plan : (b : Block) (k : ℕ) (counters : List ℕ) (a : Answer) (x : ℕ) → (x ≡ 0 → ⊥) → x ≡ planNumber b k (length counters) → Refuses x 0 a → Plan b k counters a counters
@@ -102,53 +104,48 @@ module _ (n k : ℕ) (d mask values counters : List ℕ) (s : PlanSized n k d ma
   unfolding planNumber
   plan-past h r = refused-plan own k counters a 3 (λ z. omega arith) (rw (s .ranges, lengths-right, h)) r
 
-  module _ (inside : planPast own ≡ false) (rows₀ columns₀ rows columns : List ℕ) (u : ℕ) (h : Follows k 0 rows₀ columns₀ rows columns u (plan own k)) where
-    pub plan-unmaskable : k < u → Refuses 7 0 a → Plan own k counters a counters
-    unfolding planNumber
-    plan-unmaskable e r =
-        refused-plan own k counters a 7 (λ z. omega arith) (rw (s .ranges, lengths-right, inside, lost k rows₀ columns₀ rows columns u (plan own k) h e)) r
+  module _ (inside : planPast own ≡ false) (f : First) (b : Begins d mask values f) where
+    -- it accepts, and the counts are those of the first pass
+    counts-right : (u : ℕ) → a ≡ answerOf u (f .faults) (f .wrong) → Accepts d mask values u a
+    counts-right u e = subst (Accepts d mask values u) (sym e) (b .accepts u)
 
-    -- there is room for the counters of the levels that were used
-    has-room : u ≤ k → packable k (length d) n u (length counters) ≡ true
-    has-room e =
-        let r = in-range (length d) n k .0 (s .ranges) in
-        can-pack k (length d) n u (length counters) (omega (arith, width-holds k (r .levels .1))) (record { rows = r .rows .1; columns = r .columns .1; size = s .sizes })
+    module _ (rows₀ columns₀ rows columns : List ℕ) (u : ℕ) (p : Planned d mask values (firstOf f) true k 0 rows₀ columns₀ rows columns u) where
+      follows : Follows k 0 rows₀ columns₀ rows columns u (plan own k)
+      unfolding plan
+      follows = p .follows n (whole own) (b .takes· n (mask-inside n d mask values inside))
 
-    pub plan-done : (counters′ : List ℕ) → u ≤ k → Accepts d mask values u a → Pack k (length d) n u rows columns counters counters′ → Plan own k counters a counters′
-    unfolding planNumber
-    plan-done counters′ e g p =
-        let f = found k rows₀ columns₀ rows columns u (plan own k) h e in
-        let counted : inOrder (length d) n (times rows u) (times columns u) ≡ inOrder (length d) n (f .r) (f .c) =
-        ap₂ _++_ (list-ext (length d) (times rows u) (f .r) (λ i _. all-of rows₀ rows u i (f .r i) (f .counts .rows i)))
-        (list-ext n (times columns u) (f .c) (λ j _. all-of columns₀ columns u j (f .c j) (f .counts .columns j))) in
-        plan-demands own k counters a counters′ (record {
-          number = g .number ∙ rw (s .ranges, lengths-right, inside, f .masks);
-          indexIs = g .index;
-          untouched = λ l. absurd (omega (arith, g .number));
-          countersAre = λ _. rw (f .masks) (p .bytes (has-room e) ∙ ap (packed (width k)) counted);
-          levelsAre = λ _. rw (f .masks) (g .levels ∙ f .counts .used);
-          faultsAre = λ _. g .faultsAre;
-          kindsAre = λ _. g .kindsAre n (mask-inside n d mask values inside);
-        })
+      pub plan-unmaskable : k < u → Refuses 7 0 a → Plan own k counters a counters
+      unfolding planNumber
+      plan-unmaskable e r =
+          refused-plan own k counters a 7 (λ z. omega arith) (rw (s .ranges, lengths-right, inside, lost k rows₀ columns₀ rows columns u (plan own k) follows e)) r
+
+      -- there is room for the counters of the levels that were used
+      has-room : u ≤ k → packable k (length d) n u (length counters) ≡ true
+      has-room e =
+          let r = in-range (length d) n k .0 (s .ranges) in
+          can-pack k (length d) n u (length counters) (omega (arith, width-holds k (r .levels .1))) (record { rows = r .rows .1; columns = r .columns .1; size = s .sizes })
+
+      pub plan-done : (counters′ : List ℕ) → u ≤ k → a ≡ answerOf u (f .faults) (f .wrong) → Pack k (length d) n u rows columns counters counters′ → Plan own k counters a counters′
+      unfolding planNumber
+      plan-done counters′ e q p =
+          let g = counts-right u q in
+          let o = found k rows₀ columns₀ rows columns u (plan own k) follows e in
+          let counted : inOrder (length d) n (times rows u) (times columns u) ≡ inOrder (length d) n (o .r) (o .c) =
+          ap₂ _++_ (list-ext (length d) (times rows u) (o .r) (λ i _. all-of rows₀ rows u i (o .r i) (o .counts .rows i)))
+          (list-ext n (times columns u) (o .c) (λ j _. all-of columns₀ columns u j (o .c j) (o .counts .columns j))) in
+          plan-demands own k counters a counters′ (record {
+            number = g .number ∙ rw (s .ranges, lengths-right, inside, o .masks);
+            indexIs = g .index;
+            untouched = λ l. absurd (omega (arith, g .number));
+            countersAre = λ _. rw (o .masks) (p .bytes (has-room e) ∙ ap (packed (width k)) counted);
+            levelsAre = λ _. rw (o .masks) (g .levels ∙ o .counts .used);
+            faultsAre = λ _. g .faultsAre;
+            kindsAre = λ _. g .kindsAre n (mask-inside n d mask values inside);
+          })
 
     -- no level, and the counters of none
-    pub plan-clear : (counters′ : List ℕ) → u ≡ 0 → Accepts d mask values u a → counters′ ≡ list (length counters) (λ _. 0) → Plan own k counters a counters′
-    plan-clear counters′ z g e =
-        let l : u ≤ k = omega arith in
-        let room : packable k (length d) n 0 (length counters) ≡ true = subst (λ x. packable k (length d) n x (length counters) ≡ true) z (has-room l) in
-        plan-done counters′ l g (subst (λ x. Pack k (length d) n x rows columns counters counters′) (sym z) (cleared k (length d) n rows columns counters counters′ room e))
-
-    -- one level, and the counters of its sets
-    pub plan-one : (counters′ : List ℕ) (x y : ℕ) → u ≡ 1 → 1 ≤ k → getD rows 0 0 ≡ x → getD columns 0 0 ≡ y → Accepts d mask values 1 a
-        → counters′ ≡ packed (width k) (inOrder (length d) n (λ i. num (has x i)) (λ j. num (has y j))) → Plan own k counters a counters′
-    plan-one counters′ x y z l p q g e =
-        let l′ : u ≤ k = omega arith in
-        let room : packable k (length d) n 1 (length counters) ≡ true = subst (λ v. packable k (length d) n v (length counters) ≡ true) z (has-room l′) in
-        plan-done counters′ l′ (subst (λ v. Accepts d mask values v a) (sym z) g)
-        (subst (λ v. Pack k (length d) n v rows columns counters counters′) (sym z) (packed-one k (length d) n x y rows columns counters counters′ p q room e))
-
--- there is room for the counters of one level
-pub one-room : (n k : ℕ) (d mask values counters : List ℕ) → PlanSized n k d mask values counters → packable k (length d) n 1 (length counters) ≡ true
-one-room n k d mask values counters s =
-    let r = in-range (length d) n k .0 (s .ranges) in
-    can-pack k (length d) n 1 (length counters) (omega (arith, r .levels .0, width-holds k (r .levels .1))) (record { rows = r .rows .1; columns = r .columns .1; size = s .sizes })
+    pub plan-clear : (counters′ : List ℕ) → f .rows ≡ 0 → a ≡ answerOf 0 (f .faults) (f .wrong) → counters′ ≡ list (length counters) (λ _. 0) → Plan own k counters a counters′
+    plan-clear counters′ z q e =
+        let none : Planned d mask values (firstOf f) true k 0 [] [] [] [] 0 = planned-none d mask values true (firstOf f) k 0 [] [] z in
+        let few : 0 ≤ k = omega arith in
+        plan-done [] [] [] [] 0 none counters′ few q (cleared k (length d) n [] [] counters counters′ (has-room [] [] [] [] 0 none few) e)

@@ -22,7 +22,7 @@ use Rattle.grid_promises.specs.Calls.{inRange, past, readNumber, block, planPas
 use Rattle.grid_promises.specs.Refusals.{StoreLengths}
 use Rattle.grid_promises.specs.Promises.{Store}
 use Rattle.grid_promises.specs.declared.Answer.{Answer}
-use Rattle.grid_promises.proofs.RefusalLaws.{in-range, read-sized, store-sized, within}
+use Rattle.grid_promises.proofs.RefusalLaws.{in-range, read-sized, store-sized}
 use Rattle.grid_promises.proofs.StoreDemands.{store-demands}
 use Rattle.grid_promises.proofs.IndexLaws.{no-index}
 use Rattle.grid_checks.specs.Numbers.{judged, storeJudged}

@@ -3,7 +3,7 @@ use Prim.Native.Nat.{ℕ, suc, _+_, _-_, _^_, _<_, _≤_}
 use mathlib.Core.Path.{_≡_}
 use mathlib.Core.Bool.{Bool, true, false, xor, _&&_}
 use mathlib.Core.List.{List}
-use lib.ListN.{length, getD}
+use lib.ListN.{length}
 use Rattle.bits.specs.Bits.{some, most, Below}
 use Rattle.rdis.specs.Block.{Block, bit, faults}
 use Rattle.rdis.specs.Levels.{Subgrid, whole, taken, Outcome, masked, unmaskable, levels}
@@ -48,14 +48,14 @@ pub record Rows (d mask values : List ℕ) : Type 0 where
 abbrev pub subgrid : Sub → Subgrid
 subgrid s = record { rows = s .rows; columns = s .columns }
 
+-- the rows and columns that hold a wrong cell
+abbrev pub firstOf : First → Subgrid
+firstOf f = record { rows = f .rows; columns = f .columns }
+
 -- t is what a level takes of the subgrid s in the sense w, whatever number of columns holds s
 pub record Takes (d mask values : List ℕ) (s : Subgrid) (w : Bool) (t : Subgrid) : Type 0 where
   pub few : t .rows < 2 ^ length d
   pub taken· : (n : ℕ) → s .columns < 2 ^ n → t ≡ taken (blockOf n d mask values) w s
-
--- what the first level takes of n columns
-abbrev pub FirstTaken : ℕ → List ℕ → List ℕ → List ℕ → ℕ → ℕ → Type 0
-FirstTaken n d mask values r c = _≡_ {A = Subgrid} (record { rows = r; columns = c }) (taken (blockOf n d mask values) true (whole (blockOf n d mask values)))
 
 -- of u levels, at most k, the sets stand from place `at` on, and raise what the places before them count by the counters of an outcome
 pub record Counts (k at : ℕ) (rows₀ columns₀ rows′ columns′ : List ℕ) (u l : ℕ) (r c : ℕ → ℕ) : Type 0 where
@@ -68,12 +68,10 @@ abbrev pub Follows : ℕ → ℕ → List ℕ → List ℕ → List ℕ → List
 Follows k at rows₀ columns₀ rows′ columns′ u (masked l r c) = Counts k at rows₀ columns₀ rows′ columns′ u l r c
 Follows k at rows₀ columns₀ rows′ columns′ u unmaskable = u ≡ suc k
 
--- at most k levels from the subgrid s on, in the sense w, whatever number of columns holds s
-pub record Planned (d mask values : List ℕ) (s : Subgrid) (w : Bool) (k at : ℕ) (rows₀ columns₀ rows′ columns′ : List ℕ) (u : ℕ) : Type 0 where
+-- at most k levels, of which the first takes t in the sense w, whatever subgrid s of however many columns it takes it of
+pub record Planned (d mask values : List ℕ) (t : Subgrid) (w : Bool) (k at : ℕ) (rows₀ columns₀ rows′ columns′ : List ℕ) (u : ℕ) : Type 0 where
   pub few : u ≤ suc k
-  pub keptRows : (i : ℕ) → i < at → getD rows′ i 0 ≡ getD rows₀ i 0
-  pub keptColumns : (i : ℕ) → i < at → getD columns′ i 0 ≡ getD columns₀ i 0
-  pub follows : (n : ℕ) → s .columns < 2 ^ n → Follows k at rows₀ columns₀ rows′ columns′ u (levels (blockOf n d mask values) k w s)
+  pub follows : (n : ℕ) (s : Subgrid) → t ≡ taken (blockOf n d mask values) w s → Follows k at rows₀ columns₀ rows′ columns′ u (levels (blockOf n d mask values) k w s)
 
 -- ---- the answers of a plan and a store
 
@@ -91,12 +89,16 @@ pub record Accepts (d mask values : List ℕ) (l : ℕ) (a : Answer) : Type 0 wh
   pub faultsAre : a .faults ≡ faults (length d) mask
   pub kindsAre : (n : ℕ) → Below (2 ^ n) mask → CountsKinds (blockOf n d mask values) a
 
+-- the answer that accepts with l levels, where f cells are stuck and w of them wrong
+abbrev pub answerOf : ℕ → ℕ → ℕ → Answer
+answerOf l f w = record { number = 0; levels = l; faults = f; wrong = w; right = f - w; index = 0 }
+
 -- what the first pass over the stuck cells finds: the counts of an answer, and what the first level takes, whatever number of columns holds the mask
 pub record Begins (d mask values : List ℕ) (f : First) : Type 0 where
   pub few : f .rows < 2 ^ length d
   pub least : f .wrong ≤ f .faults
-  pub accepts : (l : ℕ) → Accepts d mask values l (record { number = 0; levels = l; faults = f .faults; wrong = f .wrong; right = f .faults - f .wrong; index = 0 })
-  pub takes· : (n : ℕ) → Below (2 ^ n) mask → FirstTaken n d mask values (f .rows) (f .columns)
+  pub accepts : (l : ℕ) → Accepts d mask values l (answerOf l (f .faults) (f .wrong))
+  pub takes· : (n : ℕ) → Below (2 ^ n) mask → firstOf f ≡ taken (blockOf n d mask values) true (whole (blockOf n d mask values))
 
 -- ---- a store
 

@@ -3,6 +3,7 @@ mod answers;
 mod levels;
 mod shows;
 mod stores;
+mod stuck;
 
 use crate::answers::accepted;
 use crate::answers::refused;
@@ -86,40 +87,24 @@ fn plan_sized(
     let f = levels::first_level(data, mask, values);
     if f.rows == 0 {
         grid_counters::clear(counters);
-        return Answer {
-            number: ACCEPTED,
-            levels: 0,
-            faults: f.faults,
-            wrong: f.wrong,
-            right: f.faults - f.wrong,
-            index: 0,
-        };
+        return accepted(0, f.faults, f.wrong);
     }
     let mut rowsets = [0u64; LEVELS];
     let mut columnsets = [0u64; LEVELS];
-    let used = levels::plan(
-        k,
-        data,
-        mask,
-        values,
+    let used = levels::descend(
+        &data,
+        &mask,
+        &values,
         f.rows,
         f.columns,
+        true,
+        k,
+        0,
         &mut rowsets,
         &mut columnsets,
     );
     if used > k {
         return refused(UNMASKABLE, 0);
-    }
-    if (used == 1) & (k <= 3) {
-        grid_counters::pack_one(k, data.len(), columns, f.rows, f.columns, counters);
-        return Answer {
-            number: ACCEPTED,
-            levels: 1,
-            faults: f.faults,
-            wrong: f.wrong,
-            right: f.faults - f.wrong,
-            index: 0,
-        };
     }
     grid_counters::pack(
         k,
@@ -130,14 +115,7 @@ fn plan_sized(
         &columnsets,
         counters,
     );
-    Answer {
-        number: ACCEPTED,
-        levels: used,
-        faults: f.faults,
-        wrong: f.wrong,
-        right: f.faults - f.wrong,
-        index: 0,
-    }
+    accepted(used, f.faults, f.wrong)
 }
 
 // Stores the data by counters, whoever made them; or refuses where a stuck cell would then read wrong, and stores nothing.
@@ -224,7 +202,7 @@ fn store_by(
     }
     // Where no stuck cell reads wrong, the inverted data has the stuck values.
     words::copy(apart, cells);
-    accepted(s.levels, data, mask, values)
+    stores::counted(s.levels, data, mask, values)
 }
 
 // Converts a block's counters from K to the target `to`, an equal or a larger one; or refuses. Each counter keeps its number.

@@ -1,6 +1,10 @@
-// What a store judges of its inverted data.
+// What a store judges of its inverted data, and what it counts.
+use crate::answers::accepted;
+use crate::stuck::stuck_as;
+use crate::stuck::stuck_rows;
+use grid_promises::Answer;
 ghost use mathlib.Core.Path.{_≡_};
-ghost use Rattle.grid.specs.Steps.{Rows, anyDiffers};
+ghost use Rattle.grid.specs.Steps.{Rows, Accepts, anyDiffers};
 
 // Whether some stuck cell would read wrong: the data, inverted as a read will invert it back, is not its stuck value. A word a row, tested once.
 pub fn misreads(inverted: &[u64], mask: &[u64], values: &[u64]) -> bool
@@ -14,4 +18,21 @@ pub fn misreads(inverted: &[u64], mask: &[u64], values: &[u64]) -> bool
         i += 1;
     }
     wrong != 0
+}
+
+// The answer with these levels. The cells are counted in the rows that hold a stuck one: they are few.
+pub fn counted(levels: usize, data: &[u64], mask: &[u64], values: &[u64]) -> Answer
+    requires { ⌜ Rows (now «data») (now mask) (now values) ⌝ }
+    ensures { λ r. ⌜ Accepts (now («data» .entry)) (now (mask .entry)) (now (values .entry)) levels r ⌝ }
+{
+    let mut faults: usize = 0;
+    let mut wrong: usize = 0;
+    let mut rest = stuck_rows(mask);
+    while rest != 0 {
+        let i = u64::trailing_zeros(rest) as usize;
+        faults += u64::count_ones(mask[i]) as usize;
+        wrong += u64::count_ones(stuck_as(true, data[i], mask[i], values[i])) as usize;
+        rest = rest & (rest - 1);
+    }
+    accepted(levels, faults, wrong)
 }

@@ -7,7 +7,7 @@ use Prim.Native.Nat.{ℕ, _+_, _*_, _%_, _^_, _≤_, _<_}
 use native.Mathlib.Nat.{lt-of-lt-of-le}
 use native.Mathlib.Numerals.{add-one}
 use native.Mathlib.Omega.{arith}
-use borrow.Author.Tests.{le-leb, lt-leb, not-true}
+use borrow.Author.Tests.{le-leb, lt-leb}
 use lib.Bits.{bitOr, or-lt, or-add-and, and-le-l, and-le-r}
 use lib.Dec.{eqb, leb, ltb}
 use lib.ListN.{length, getD}
@@ -59,6 +59,7 @@ pub three-none : (xs ys zs : List ℕ) → JoinedThree xs ys zs 0 0
 unfolding some
 three-none xs ys zs n = lt-leb (2 ^ n) 0 (pow-pos n)
 
+-- each of three with its own
 apart : (a b c x y z : Bool) → (a || b) || (c || (x || (y || z))) ≡ (a || x) || ((b || y) || (c || z))
 apart true b c x y z = refl
 apart false true c true y z = refl
@@ -85,14 +86,25 @@ three-done xs ys zs i all e p q h n =
     let at : (ws : List ℕ) → i ≡ length ws → some i (λ k. leb (2 ^ n) (getD ws k 0)) ≡ past n ws = λ ws d. ap (λ k. some k (λ i. leb (2 ^ n) (getD ws i 0))) d in
     h n ∙ ap₂ _||_ (at xs e) (ap₂ _||_ (at ys (e ∙ sym p)) (at zs (e ∙ sym q)))
 
+-- those of each list joined by themselves
+pub three-apart : (n x y z : ℕ) (xs ys zs : List ℕ) → leb (2 ^ n) x ≡ past n xs → leb (2 ^ n) y ≡ past n ys → leb (2 ^ n) z ≡ past n zs
+    → leb (2 ^ n) (bitOr x (bitOr y z)) ≡ past n xs || (past n ys || past n zs)
+three-apart n x y z xs ys zs p q r = or-reaches n x (bitOr y z) ∙ ap₂ _||_ p (or-reaches n y z ∙ ap₂ _||_ q r)
+
 -- where every bit has a column no word has one
-pub past-none : (n : ℕ) (ws : List ℕ) → 64 ≤ n → Below (2 ^ 64) ws → leb 64 n ≡ not (past n ws)
+none-past : (n : ℕ) (ws : List ℕ) → 64 ≤ n → Below (2 ^ 64) ws → past n ws ≡ false
 unfolding past
-past-none n ws l h = le-leb 64 n l ∙ sym (ap not (some-none (length ws) (λ i. leb (2 ^ n) (getD ws i 0)) (λ i _. lt-leb (2 ^ n) (getD ws i 0) (lt-of-lt-of-le (h i) (pow-mono l)))))
+none-past n ws l h = some-none (length ws) (λ i. leb (2 ^ n) (getD ws i 0)) (λ i _. lt-leb (2 ^ n) (getD ws i 0) (lt-of-lt-of-le (h i) (pow-mono l)))
+
+pub past-none : (n : ℕ) (ws : List ℕ) → 64 ≤ n → Below (2 ^ 64) ws → leb 64 n ≡ not (past n ws)
+past-none n ws l h = le-leb 64 n l ∙ sym (ap not (none-past n ws l h))
+
+pub three-none-past : (n : ℕ) (xs ys zs : List ℕ) → 64 ≤ n → Below (2 ^ 64) xs → Below (2 ^ 64) ys → Below (2 ^ 64) zs → leb 64 n ≡ not (past n xs || (past n ys || past n zs))
+three-none-past n xs ys zs l p q r = le-leb 64 n l ∙ sym (ap not (ap₂ _||_ (none-past n xs l p) (ap₂ _||_ (none-past n ys l q) (none-past n zs l r))))
 
 -- else the words joined are judged
-pub past-judged : (n all : ℕ) (ws : List ℕ) → n < 64 → leb (2 ^ n) all ≡ past n ws → ltb all (1 * 2 ^ n % 2 ^ 64) ≡ not (past n ws)
-past-judged n all ws l h = ap (ltb all) (one-shl n l) ∙ ltb-not all (2 ^ n) ∙ ap not h
+pub past-judged : (n all : ℕ) (t : Bool) → n < 64 → leb (2 ^ n) all ≡ t → ltb all (1 * 2 ^ n % 2 ^ 64) ≡ not t
+past-judged n all t l h = ap (ltb all) (one-shl n l) ∙ ltb-not all (2 ^ n) ∙ ap not h
 
 -- ---- numbers and lengths
 
@@ -130,12 +142,3 @@ module _ (m n k k′ counters out : ℕ) where
       passes a true true x y h = ap₂ (λ s t. cond (not s) 1 (cond {A = ℕ} t 0 2)) (sym (and-true (a && true) ∙ and-true a)) (and-comm x y)
       passes a true false x y h = clash h refl
       passes a false c x y h = clash h refl
-
--- of three lists none has a word with a bit past the last column: where every bit has a column, and else by the words joined
-pub three-within : (n : ℕ) (xs ys zs : List ℕ) → 64 ≤ n → Below (2 ^ 64) xs → Below (2 ^ 64) ys → Below (2 ^ 64) zs → leb 64 n ≡ not (past n xs || (past n ys || past n zs))
-three-within n xs ys zs l p q r =
-    let none : (ws : List ℕ) → Below (2 ^ 64) ws → past n ws ≡ false = λ ws h. not-true (past n ws) (sym (past-none n ws l h) ∙ le-leb 64 n l) in
-    le-leb 64 n l ∙ sym (ap not (ap₂ _||_ (none xs p) (ap₂ _||_ (none ys q) (none zs r))))
-
-pub three-judged : (n all : ℕ) (t : Bool) → n < 64 → leb (2 ^ n) all ≡ t → ltb all (1 * 2 ^ n % 2 ^ 64) ≡ not t
-three-judged n all t l h = ap (ltb all) (one-shl n l) ∙ ltb-not all (2 ^ n) ∙ ap not h

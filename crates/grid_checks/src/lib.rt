@@ -109,8 +109,8 @@ pub fn within(words: &[u64], columns: usize) -> bool
     columns >= words::BITS || joined(words) < 1 << columns
 }
 
-// The OR of the words of three buffers, in one pass.
-fn joined_three(data: &[u64], mask: &[u64], values: &[u64]) -> u64
+// The OR of the words of three buffers that are as long, in one pass.
+fn joined_in_one_pass(data: &[u64], mask: &[u64], values: &[u64]) -> u64
     requires { ⌜ (length (now mask) ≡ length (now «data»)) × (length (now values) ≡ length (now «data»)) ⌝ }
     ensures { λ r. ⌜ ((n : ℕ) → leb (2 ^ n) r ≡ (past n (now («data» .entry)) || (past n (now (mask .entry)) || past n (now (values .entry))))) ⌝ }
 {
@@ -123,9 +123,18 @@ fn joined_three(data: &[u64], mask: &[u64], values: &[u64]) -> u64
     all
 }
 
-// None of the three, which are as long, has such a word.
+// The same of any three.
+fn joined_three(data: &[u64], mask: &[u64], values: &[u64]) -> u64
+    ensures { λ r. ⌜ ((n : ℕ) → leb (2 ^ n) r ≡ (past n (now («data» .entry)) || (past n (now (mask .entry)) || past n (now (values .entry))))) ⌝ }
+{
+    if (mask.len() == data.len()) & (values.len() == data.len()) {
+        return joined_in_one_pass(data, mask, values);
+    }
+    joined(data) | (joined(mask) | joined(values))
+}
+
+// None of the three has such a word.
 pub fn all_within(data: &[u64], mask: &[u64], values: &[u64], columns: usize) -> bool
-    requires { ⌜ (length (now mask) ≡ length (now «data»)) × (length (now values) ≡ length (now «data»)) ⌝ }
     ensures { λ r. ⌜ r ≡ not (past columns (now («data» .entry)) || (past columns (now (mask .entry)) || past columns (now (values .entry)))) ⌝ }
 {
     columns >= words::BITS || joined_three(data, mask, values) < 1 << columns

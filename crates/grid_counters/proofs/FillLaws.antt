@@ -1,20 +1,20 @@
 -- Laws of the way from planes to bytes: the words of the bytes' bits, and their bytes stored. Assumes nothing.
 use Prim.Native.Nat.{ℕ, _+_, _-_, _*_, _/_, _%_, _^_, _≤_, _<_}
 use mathlib.Core.Path.{_≡_, refl, sym, ap, ap₂, subst, _∙_}
-use mathlib.Core.Bool.{Bool, true, false, _&&_, _||_, and-false}
+use mathlib.Core.Bool.{Bool, _&&_, _||_}
 use mathlib.Core.List.{List}
 use mathlib.Core.Logic.{⊎-elim}
 use native.Mathlib.Nat.{mod-lt, mod-one, div-one, mul-add-div, mul-add-mod-self-left, mul-le-mul-left}
 use native.Mathlib.Omega.{arith}
 use lib.Bits.{bitOr, or-lt}
-use lib.Dec.{eqb, ltb, lit<, lit≤}
+use lib.Dec.{eqb, lit<, lit≤}
 use lib.ListN.{length, getD, set}
 use lib.Pow.{pow-pos}
 use lib.Seq.{getD-set-same, getD-set-other}
-use Rattle.bits.specs.Bits.{num, has, word, words, bytes, Below}
+use Rattle.bits.specs.Bits.{has, word, words, bytes, Below}
 use Rattle.bits.proofs.TestLaws.{lt-or-le}
 use Rattle.bits.proofs.BoundLaws.{list-ext, list-getD}
-use Rattle.bits.proofs.BitLaws.{has-low, has-zero, has-ext, has-or, has-shr, has-word, word-lt, word-ext, is-word}
+use Rattle.bits.proofs.BitLaws.{has-low, has-or, has-shr, has-word, word-lt, word-ext, is-word}
 use Rattle.bits.proofs.ByteLaws.{past-end}
 use Rattle.rdis.specs.Packing.{bytesFor, inOrder, packed}
 use Rattle.rdis.proofs.PackingLaws.{packed-bits, length-in-order, row-in-order, column-in-order}
@@ -110,55 +110,6 @@ pairs-stored w first second e v x y z b0 b1 b2 b3 b4 pv sv px sx py sy pz sz =
     subst (λ w. StoresPlanes w first second b4) (sym e)
     (λ f a b.
     both-halves 64 16 y z second b2 b3 b4 f refl b py sy pz sz (both-halves 0 0 v x first b0 b1 b2 f refl (from-first f first a) pv sv px sx (filled-none (bitOf 2 f) b0)))
-
-low-of : (b : Bool) → has (num b) 0 ≡ b
-unfolding has
-low-of true = refl
-low-of false = refl
-
-high-of : (b : Bool) → has (num b) 1 ≡ false
-unfolding has
-high-of true = refl
-high-of false = refl
-
--- planes without a second bit
-no-bits : 0 ≡ word 64 (spaced 2 0)
-no-bits = is-word 64 0 (spaced 2 0) (pow-pos 64) (λ p _. has-zero p ∙ sym (ap (λ t. ltb (p % 2) 1 && t) (has-zero (p / 2)) ∙ and-false (ltb (p % 2) 1)))
-
-pub alone : (low x : ℕ) → x ≡ word 64 (spaced 2 low) → Pairs low 0 x
-alone low x e f g h =
-    let same : bitOr (0 * 2 ^ 1 % 2 ^ 64) x ≡ x = has-ext 64 (bitOr 0 x) x (or-lt 64 0 x (pow-pos 64) (rw e (word-lt 64 _))) (rw e (word-lt 64 _)) (λ j _. has-or 0 x j ∙ ap (λ t. t || has x j) (has-zero j)) in
-    sym same ∙ paired low 0 x 0 e no-bits f g h
-
-module _ (m : ℕ) (few : m ≤ 64) (rows columns first second : ℕ)
-    (front : (f : ℕ → Bool) → rows ≡ word m f → columns ≡ word 64 (λ i. f (m + i)) → first ≡ word 64 f)
-    (back : (f : ℕ → Bool) → columns ≡ word 64 (λ i. f (m + i)) → ((t : ℕ) → m + 64 ≤ t → f t ≡ false) → second ≡ word 64 (λ i. f (64 + i))) where
-  -- a word that is 0 has no bit
-  none : (n : ℕ) (g : ℕ → Bool) → 0 ≡ word n g → (i : ℕ) → i < n → g i ≡ false
-  none n g e i l = sym (has-word n g i l) ∙ ap (λ x. has x i) (sym e) ∙ has-zero i
-
-  after : (f : ℕ → ℕ) → 0 ≡ word 64 (λ i. has (f (m + i)) 1) → (i : ℕ) → m ≤ i → i < m + 64 → has (f i) 1 ≡ false
-  after f e i l h = let q : m + (i - m) ≡ i = omega arith in subst (λ x. has (f x) 1 ≡ false) q (none 64 (λ i. has (f (m + i)) 1) e (i - m) (omega arith))
-
-  pub one-first : (f : ℕ → ℕ) → AreBits m f (record { low = rows; high = 0 }) → AreBits 64 (λ i. f (m + i)) (record { low = columns; high = 0 }) → AreBits 64 f (record { low = first; high = 0 })
-  one-first f a b = record {
-    lower = front (λ i. has (f i) 0) (a .lower) (b .lower);
-    higher = is-word 64 0 (λ i. has (f i) 1) (pow-pos 64) (λ i l. has-zero i ∙ sym (⊎-elim (λ q. none m (λ i. has (f i) 1) (a .higher) i q) (λ q. after f (b .higher) i q (omega arith)) (lt-or-le i m)));
-  }
-
-  pub one-second : (f : ℕ → ℕ) → AreBits 64 (λ i. f (m + i)) (record { low = columns; high = 0 }) → ((t : ℕ) → m + 64 ≤ t → f t ≡ 0) → AreBits 64 (λ i. f (64 + i)) (record { low = second; high = 0 })
-  one-second f b z = record {
-    lower = back (λ i. has (f i) 0) (b .lower) (λ t l. ap (λ x. has x 0) (z t l) ∙ has-zero 0);
-    higher = is-word 64 0 (λ i. has (f (64 + i)) 1) (pow-pos 64)
-        (λ i l. has-zero i ∙ sym (⊎-elim (λ q. after f (b .higher) (64 + i) (omega arith) (omega arith)) (λ q. ap (λ x. has x 1) (z (64 + i) (omega arith)) ∙ has-zero 1) (lt-or-le i m)));
-  }
-
--- the plane of counters that are 0 or 1 is the set
-pub one-plane : (n x : ℕ) → x < 2 ^ n → AreBits n (λ i. num (has x i)) (record { low = x; high = 0 })
-one-plane n x l = record {
-  lower = is-word n x (λ i. has (num (has x i)) 0) l (λ i _. sym (low-of (has x i)));
-  higher = is-word n 0 (λ i. has (num (has x i)) 1) (pow-pos n) (λ i _. has-zero i ∙ sym (high-of (has x i)));
-}
 
 -- ---- all counters
 

@@ -8,6 +8,7 @@ pub mod TallyLaws
 pub mod ThreeLaws
 pub mod FillLaws
 pub mod ThreeFillLaws
+pub mod OneLaws
 pub mod JudgeLaws
 pub mod PromiseLaws
 pub mod ConvertLaws

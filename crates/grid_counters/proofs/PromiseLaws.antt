@@ -2,7 +2,7 @@
 use Prim.Native.Nat.{ℕ, _+_, _*_, _/_, _%_, _^_, _<_, _≤_}
 use mathlib.Core.Path.{_≡_, refl, sym, ap, ap₂, _∙_}
 use mathlib.Core.Bool.{Bool, true, false, not, cond, _&&_}
-use mathlib.Core.List.{List, _++_}
+use mathlib.Core.List.{List}
 use mathlib.Core.Logic.{_≢_, ⊎-elim}
 use native.Mathlib.Nat.{mod-lt, lt-of-lt-of-le}
 use native.Mathlib.Omega.{arith}
@@ -10,8 +10,8 @@ use borrow.Author.Tests.{leb-true, ltb-true, eqb-true, eq-eqb, le-leb, lt-ltb, l
 use lib.Dec.{eqb, leb, ltb}
 use lib.ListN.{length, getD, replicate, length-append}
 use lib.Pow.{pow-pos, pow-mono}
-use Rattle.bits.specs.Bits.{num, sum, list, has, word, words, number, bytes, Below}
-use Rattle.bits.proofs.TestLaws.{clash, num-lt, and-in, and-left, and-right, lt-or-le}
+use Rattle.bits.specs.Bits.{sum, list, has, word, words, number, bytes, Below}
+use Rattle.bits.proofs.TestLaws.{clash, and-in, and-left, and-right, lt-or-le}
 use Rattle.bits.proofs.BoundLaws.{some-none, none-below, sum-num-le, length-list, list-ext}
 use Rattle.bits.proofs.BitLaws.{has-zero, is-word}
 use Rattle.rdis.specs.Packing.{width, bytesFor, inOrder, packed, counter, rowCounter, columnCounter, spareClear, above, firstAbove}
@@ -116,30 +116,3 @@ cleared k m n rows columns before after h e =
       bytes = λ _. e ∙ zeros-packed (width k) (length before) (inOrder m n r c) (width-some k) (λ t. let l = below t in omega arith) (room ∙ ap (bytesFor (width k)) (sym size));
       untouched = λ q. clash h q;
     }
-
--- ---- the bytes of counters that are 0 or 1
-
-two-bits : (b : Bool) → cond {A = ℕ} b 1 2 ≤ 2
-two-bits true = omega arith
-two-bits false = omega arith
-
-pub narrow-width : (k : ℕ) → k ≤ 3 → width k ≤ 2
-unfolding width
-narrow-width k l = rw (le-leb k 3 l) (two-bits (leb k 1))
-
-pub ones-fit : (k m n x y : ℕ) → 1 < 2 ^ width k → Below (2 ^ width k) (inOrder m n (λ i. num (has x i)) (λ j. num (has y j)))
-ones-fit k m n x y h =
-    in-order-below m n (λ i. num (has x i)) (λ j. num (has y j)) (2 ^ width k) (pow-pos (width k)) (λ i _. omega (arith, num-lt (has x i))) (λ j _. omega (arith, num-lt (has y j)))
-
-one-time : (sets : List ℕ) (x : ℕ) → getD sets 0 0 ≡ x → (i : ℕ) → num (has x i) ≡ times sets 1 i
-unfolding times sum
-one-time sets x e i = ap (λ y. num (has y i)) (sym e) ∙ omega arith
-
-pub packed-one : (k m n x y : ℕ) (rows columns before after : List ℕ) → getD rows 0 0 ≡ x → getD columns 0 0 ≡ y → packable k m n 1 (length before) ≡ true
-    → after ≡ packed (width k) (inOrder m n (λ i. num (has x i)) (λ j. num (has y j))) → Pack k m n 1 rows columns before after
-packed-one k m n x y rows columns before after p q h e = record {
-  bytes = λ _.
-      e
-      ∙ ap (packed (width k)) (ap₂ _++_ (list-ext m (λ i. num (has x i)) (times rows 1) (λ i _. one-time rows x p i)) (list-ext n (λ j. num (has y j)) (times columns 1) (λ j _. one-time columns y q j)));
-  untouched = λ z. clash h z;
-}

@@ -13,7 +13,7 @@ use Rattle.bits.proofs.BitLaws.{has-or, word-lt, word-ext, is-word}
 use Rattle.rdis.specs.Packing.{bytesFor, inOrder, packed}
 use Rattle.rdis.proofs.PackingLaws.{row-in-order, column-in-order}
 use Rattle.grid_counters.specs.declared.threes.Threes.{Threes}
-use Rattle.grid_counters.specs.Steps.{AreThrees, bitOf, spaced, Stores, Triples, StoresThrees, FillsPlanes}
+use Rattle.grid_counters.specs.Steps.{AreThrees, bitOf, spaced, Stores, Triples, Parts, StoresThrees, FillsPlanes}
 use Rattle.grid_counters.proofs.ShiftLaws.{joined, from-bit}
 use Rattle.grid_counters.proofs.SpacedLaws.{spaced-bit, spaced-moved, thirds-inside, pick-three}
 use Rattle.grid_counters.proofs.FillLaws.{bit-from, from-counter, in-plane, from-line, filled-none, all, all-past, all-stored}
@@ -33,8 +33,7 @@ tripled low high top x y z ex ey ez f g h k =
     ∙ (λ t. (eqb (p % 3) 2 && k (p / 3) near t) || ((eqb (p % 3) 1 && h (p / 3) near t) || (eqb (p % 3) 0 && g (p / 3) near t))) ∙ pick-three (p % 3) (mod-lt p (lit< tt)) (has (f (p / 3))))
 
 -- 64 counters of three bits, in three words of four parts
-module _ (q : ℕ) (p : Threes) (a b c d : ℕ) (pa : Triples (p .planes .low) (p .planes .high) (p .top) a) (pb : Triples (p .planes .low / 2 ^ 16) (p .planes .high / 2 ^ 16) (p .top / 2 ^ 16) b)
-    (pc : Triples (p .planes .low / 2 ^ 32) (p .planes .high / 2 ^ 32) (p .top / 2 ^ 32) c) (pd : Triples (p .planes .low / 2 ^ 48) (p .planes .high / 2 ^ 48) (p .top / 2 ^ 48) d) where
+module _ (q : ℕ) (p : Threes) (a b c d : ℕ) (parts : Parts p a b c d) where
   module _ (f : ℕ → ℕ) (t : ℕ) (h : 8 * q ≡ 3 * t) (bits : AreThrees 64 (λ i. f (t + i)) p) where
     -- the bits from byte q on
     abbrev from : ℕ → Bool
@@ -42,7 +41,7 @@ module _ (q : ℕ) (p : Threes) (a b c d : ℕ) (pa : Triples (p .planes .low) (
 
     first-part : a ≡ word 48 from
     first-part =
-        pa (λ i. f (t + i)) (λ i l. in-plane (p .planes .low) 0 t f (bits .bits .lower) i (omega arith)) (λ i l. in-plane (p .planes .high) 1 t f (bits .bits .higher) i (omega arith))
+        parts .first (λ i. f (t + i)) (λ i l. in-plane (p .planes .low) 0 t f (bits .bits .lower) i (omega arith)) (λ i l. in-plane (p .planes .high) 1 t f (bits .bits .higher) i (omega arith))
         (λ i l. in-plane (p .top) 2 t f (bits .third) i (omega arith))
 
     -- a part of the counters from counter s on, of which three are nine bits
@@ -63,17 +62,17 @@ module _ (q : ℕ) (p : Threes) (a b c d : ℕ) (pa : Triples (p .planes .low) (
         k ∙ word-ext 64 _ _ (λ i _. let there : 8 * q + (8 * e + i) ≡ 8 * (q + e) + i = omega arith in bit-from 3 t q f (lit< tt) h (8 * e + i) ∙ ap (bitOf 3 f) there)
 
     word-1 : bitOr (b * 2 ^ 48 % 2 ^ 64) a ≡ word 64 from
-    word-1 = joined 48 48 a b from (lit< tt) (lit≤ tt) first-part (next-part 16 b (lit≤ tt) pb)
+    word-1 = joined 48 48 a b from (lit< tt) (lit≤ tt) first-part (next-part 16 b (lit≤ tt) (parts .second))
 
     word-2 : bitOr (c * 2 ^ 32 % 2 ^ 64) (b / 2 ^ 16) ≡ word 64 (λ i. from (64 + i))
     word-2 =
-        joined 32 48 (b / 2 ^ 16) c (λ i. from (64 + i)) (lit< tt) (lit≤ tt) (rest-of-part 16 32 48 b refl (next-part 16 b (lit≤ tt) pb))
-        (next-part 32 c (lit≤ tt) pc ∙ word-ext 48 _ _ (λ i _. let e : 96 + i ≡ 64 + (32 + i) = omega arith in ap from e))
+        joined 32 48 (b / 2 ^ 16) c (λ i. from (64 + i)) (lit< tt) (lit≤ tt) (rest-of-part 16 32 48 b refl (next-part 16 b (lit≤ tt) (parts .second)))
+        (next-part 32 c (lit≤ tt) (parts .third) ∙ word-ext 48 _ _ (λ i _. let e : 96 + i ≡ 64 + (32 + i) = omega arith in ap from e))
 
     word-3 : bitOr (d * 2 ^ 16 % 2 ^ 64) (c / 2 ^ 32) ≡ word 64 (λ i. from (128 + i))
     word-3 =
-        joined 16 48 (c / 2 ^ 32) d (λ i. from (128 + i)) (lit< tt) (lit≤ tt) (rest-of-part 32 16 96 c refl (next-part 32 c (lit≤ tt) pc))
-        (next-part 48 d (lit≤ tt) pd ∙ word-ext 48 _ _ (λ i _. let e : 144 + i ≡ 128 + (16 + i) = omega arith in ap from e))
+        joined 16 48 (c / 2 ^ 32) d (λ i. from (128 + i)) (lit< tt) (lit≤ tt) (rest-of-part 32 16 96 c refl (next-part 32 c (lit≤ tt) (parts .third)))
+        (next-part 48 d (lit≤ tt) (parts .fourth) ∙ word-ext 48 _ _ (λ i _. let e : 144 + i ≡ 128 + (16 + i) = omega arith in ap from e))
 
   pub threes-stored : (b0 b1 b2 b3 : List ℕ) → Stores q 8 (bitOr (b * 2 ^ 48 % 2 ^ 64) a) b0 b1 → Stores (q + 8) 8 (bitOr (c * 2 ^ 32 % 2 ^ 64) (b / 2 ^ 16)) b1 b2
       → Stores (q + 16) 8 (bitOr (d * 2 ^ 16 % 2 ^ 64) (c / 2 ^ 32)) b2 b3 → StoresThrees q p b0 b3

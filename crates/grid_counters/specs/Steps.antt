@@ -1,5 +1,5 @@
 -- What the private steps between bytes and sets say. Nobody who reads the promises needs this page. Assumes nothing.
-use Prim.Native.Nat.{ℕ, _+_, _*_, _/_, _%_, _<_}
+use Prim.Native.Nat.{ℕ, _+_, _*_, _/_, _%_, _^_, _<_}
 use mathlib.Core.Path.{_≡_}
 use mathlib.Core.Bool.{Bool, cond, _&&_}
 use mathlib.Core.List.{List}
@@ -54,6 +54,13 @@ Triples low high top v =
     (f : ℕ → ℕ) → ((i : ℕ) → i < 16 → has low i ≡ has (f i) 0) → ((i : ℕ) → i < 16 → has high i ≡ has (f i) 1) → ((i : ℕ) → i < 16 → has top i ≡ has (f i) 2)
     → v ≡ word 48 (bitOf 3 f)
 
+-- 64 counters of three bits, which have these planes, are made of four parts of 16
+pub record Parts (p : Threes) (a b c d : ℕ) : Type 0 where
+  pub first : Triples (p .planes .low) (p .planes .high) (p .top) a
+  pub second : Triples (p .planes .low / 2 ^ 16) (p .planes .high / 2 ^ 16) (p .top / 2 ^ 16) b
+  pub third : Triples (p .planes .low / 2 ^ 32) (p .planes .high / 2 ^ 32) (p .top / 2 ^ 32) c
+  pub fourth : Triples (p .planes .low / 2 ^ 48) (p .planes .high / 2 ^ 48) (p .top / 2 ^ 48) d
+
 -- 64 counters of three bits, which have these planes, are stored from byte q on, as far as there are bytes: where the bytes before are those of the counters
 -- before, so are these
 abbrev pub StoresThrees : ℕ → Threes → List ℕ → List ℕ → Type 0
@@ -66,6 +73,11 @@ StoresPlanes w first second after = (f : ℕ → ℕ) → AreBits 64 f first →
 -- so are those that have third bits too
 abbrev pub FillsPlanes : ℕ → Threes → Threes → List ℕ → Type 0
 FillsPlanes w first second after = (f : ℕ → ℕ) → AreThrees 64 f first → AreThrees 64 (λ i. f (64 + i)) second → Filled (16 * w) (bitOf w f) after
+
+-- so are those that are 0 or 1, of which these words have the lowest bits
+abbrev pub StoresOnes : ℕ → ℕ → ℕ → List ℕ → Type 0
+StoresOnes w first second after =
+    (f : ℕ → ℕ) → ((t : ℕ) → f t < 2) → first ≡ word 64 (λ i. has (f i) 0) → second ≡ word 64 (λ i. has (f (64 + i)) 0) → Filled (16 * w) (bitOf w f) after
 
 -- counters are judged: by whether their spare bits are clear, whether one of them is above K, and t, the index of the first that is
 pub record Judges (clear high : Bool) (t : ℕ) (j : Judged) : Type 0 where

@@ -7,7 +7,7 @@ ghost use Rattle.bits.specs.Bits.{word};
 ghost use Rattle.grid_counters.specs.Steps.{spaced, Stores, Pairs, StoresPlanes};
 
 // The 32 lowest bits at the even places, with 0 between. In a block with few faults most of them are 0.
-fn apart(v: u64) -> u64
+pub fn apart(v: u64) -> u64
     ensures { λ r. ⌜ r ≡ word 64 (spaced 2 v) ⌝ }
 {
     let a = 0xffff_ffff & v;
@@ -70,20 +70,4 @@ pub fn fill(out: &mut [u8], width: usize, first: Planes, second: Planes)
     store(out, 8, pairs(first.low >> 32, first.high >> 32));
     store(out, 16, pairs(second.low, second.high));
     store(out, 24, pairs(second.low >> 32, second.high >> 32));
-}
-
-// Stores 128 counters that are 0 or 1, which have this plane, as `fill` does.
-pub fn fill_singles(out: &mut [u8], width: usize, first: u64, second: u64)
-    requires { ⌜ (0 < width) × (width ≤ 2) ⌝ }
-    ensures { λ _. ⌜ StoresPlanes width (record { low = first; high = 0 }) (record { low = second; high = 0 }) (now (out .exit)) ⌝ }
-{
-    if width == 1 {
-        store(out, 0, first);
-        store(out, 8, second);
-        return;
-    }
-    store(out, 0, apart(first));
-    store(out, 8, apart(first >> 32));
-    store(out, 16, apart(second));
-    store(out, 24, apart(second >> 32));
 }

@@ -2,6 +2,7 @@
 pub mod conversion;
 mod fill;
 mod judge;
+mod ones;
 mod planes;
 mod tally;
 mod threes;
@@ -12,10 +13,10 @@ use grid_sets::LINES;
 use refusals::WRONG_LENGTH;
 ghost use mathlib.Core.Path.{_≡_};
 ghost use mathlib.Core.Bool.{true, cond};
-ghost use Prim.Native.Nat.{_+_, _^_, _≤_, _<_};
+ghost use Prim.Native.Nat.{_+_, _≤_, _<_};
 ghost use lib.Dec.{leb};
 ghost use lib.ListN.{length};
-ghost use Rattle.bits.specs.Bits.{num, list, has};
+ghost use Rattle.bits.specs.Bits.{list};
 ghost use Rattle.rdis.specs.Packing.{width as widthOf, bytesFor, inOrder, packed};
 ghost use Rattle.grid_sets.specs.Sets.{times};
 ghost use Rattle.grid_sets.specs.Promises.{roomy as isRoomy, packable as isPackable, Unpack, Pack};
@@ -102,6 +103,10 @@ pub fn pack(
         return;
     }
     let width = grid_sizes::width(k);
+    if used == 1 {
+        pack_one(width, rows, columns, rowsets, columnsets, out);
+        return;
+    }
     if width == 3 {
         pack_threes(rows, columns, used, rowsets, columnsets, out);
         return;
@@ -109,19 +114,6 @@ pub fn pack(
     let r = tally::tally(rowsets, used, rows);
     let c = tally::tally(columnsets, used, columns);
     fill::fill(out, width, tally::first(r, c, rows), tally::second(c, rows));
-}
-
-// Writes the counters of one level, of one or two bits: those of the lines that it took are 1.
-pub fn pack_one(k: usize, rows: usize, columns: usize, taken: u64, across: u64, out: &mut [u8])
-    requires { ⌜ (isPackable k rows columns 1 (length (now out)) ≡ true) × (k ≤ 3) × (taken < 2 ^ rows) × (across < 2 ^ columns) ⌝ }
-    ensures { λ _. ⌜ now (out .exit) ≡ packed (widthOf k) (inOrder rows columns (λ i. num (has taken i)) (λ j. num (has across j))) ⌝ }
-{
-    fill::fill_singles(
-        out,
-        grid_sizes::width(k),
-        tally::front(taken, across, rows),
-        tally::back(across, rows),
-    );
 }
 
 // Writes the counters of no level.
@@ -133,6 +125,23 @@ pub fn clear(out: &mut [u8])
         out[i] = 0;
         i += 1;
     }
+}
+
+// Those of one level: 1 for the lines that it took. The sets may have lines past the last.
+fn pack_one(
+    width: usize,
+    rows: usize,
+    columns: usize,
+    rowsets: &[u64; LEVELS],
+    columnsets: &[u64; LEVELS],
+    out: &mut [u8],
+)
+    requires { ⌜ (0 < width) × (width ≤ 3) × (rows ≤ 64) × (columns ≤ 64) × (length (now out) ≡ bytesFor width (rows + columns)) ⌝ }
+    ensures { λ _. ⌜ now (out .exit) ≡ packed width (inOrder rows columns (times (now (rowsets .entry)) 1) (times (now (columnsets .entry)) 1)) ⌝ }
+{
+    let r = words::low_bits(rows) & rowsets[0];
+    let c = words::low_bits(columns) & columnsets[0];
+    ones::fill_ones(out, width, tally::front(r, c, rows), tally::back(c, rows));
 }
 
 // Those of three bits.

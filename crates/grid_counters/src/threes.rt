@@ -16,7 +16,7 @@ ghost use Prim.Native.Nat.{ℕ, _+_, _*_, _%_, _≤_, _<_};
 ghost use Rattle.bits.specs.Bits.{num, has, word};
 ghost use Rattle.rdis.specs.Packing.{counter};
 ghost use Rattle.grid_sets.specs.Sets.{setsOf, times};
-ghost use Rattle.grid_counters.specs.Steps.{AreThrees, FromThirds, FromFour, spaced, Triples, StoresThrees, FillsPlanes};
+ghost use Rattle.grid_counters.specs.Steps.{AreThrees, FromThirds, FromFour, spaced, Triples, Parts, StoresThrees, FillsPlanes};
 
 // The planes of 64 counters: bit 0 and bit 1, and bit 2.
 pub struct Threes {
@@ -168,7 +168,7 @@ pub fn second_threes(columns: Threes, at: usize) -> Threes
 // ---- to bytes
 
 // The 16 lowest bits at every third place, with 0 between.
-fn apart_by_three(v: u64) -> u64
+pub fn apart_by_three(v: u64) -> u64
     ensures { λ r. ⌜ r ≡ word 48 (spaced 3 v) ⌝ }
 {
     let a = 0xffff & v;
@@ -188,7 +188,17 @@ fn triples(low: u64, high: u64, top: u64) -> u64
     (apart_by_three(top) << 2) | ((apart_by_three(high) << 1) | apart_by_three(low))
 }
 
-// Stores 64 counters, which have these planes, from byte `q` on, as far as there are bytes. They are three words: 16 counters are three quarters of one.
+// Stores 64 counters in four parts of 16, side by side, from byte `q` on, as far as there are bytes. They are three words: a part is three quarters of one.
+pub fn store_parts(out: &mut [u8], q: usize, a: u64, b: u64, c: u64, d: u64)
+    requires { ⌜ q ≤ 24 ⌝ }
+    ensures { λ _. ⌜ ((p : _) → Parts p a b c d → StoresThrees q p (now (out .entry)) (now (out .exit))) ⌝ }
+{
+    store(out, q, (b << 48) | a);
+    store(out, q + 8, (c << 32) | (b >> 16));
+    store(out, q + 16, (d << 16) | (c >> 32));
+}
+
+// Stores 64 counters, which have these planes.
 fn store_threes(out: &mut [u8], q: usize, p: Threes)
     requires { ⌜ q ≤ 24 ⌝ }
     ensures { λ _. ⌜ StoresThrees q p (now (out .entry)) (now (out .exit)) ⌝ }
@@ -200,9 +210,7 @@ fn store_threes(out: &mut [u8], q: usize, p: Threes)
     let b = triples(low >> 16, high >> 16, top >> 16);
     let c = triples(low >> 32, high >> 32, top >> 32);
     let d = triples(low >> 48, high >> 48, top >> 48);
-    store(out, q, (b << 48) | a);
-    store(out, q + 8, (c << 32) | (b >> 16));
-    store(out, q + 16, (d << 16) | (c >> 32));
+    store_parts(out, q, a, b, c, d);
 }
 
 // Stores 128 counters, as far as there are bytes. The second 64 come after the first.

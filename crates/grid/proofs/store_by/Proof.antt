@@ -44,7 +44,7 @@ store-by-spec =
     (c .before .before .before .before .if1 .left) _ (c .before .before .misreads .ensures) (c .refused2 .result) (c .before .if2 .taken) (c .refused2 .ensures))
     -- copy-requires
     (λ c κs. search needs)
-    -- accepted-requires
+    -- counted-requires
     (λ c κs.
     let p = c .before .before .before .before .before .before .before .before .before .before .before .before .before .before .before .before .before .before .before .before .pre .0 .planned in
     let r : InRange _ _ _ = in-range _ _ _ .0 (p .ranges) in
@@ -59,4 +59,4 @@ store-by-spec =
     let a = s .args in
     let i = c .before .before .before .before .before .before .before .before .before .before .before .before .before .show-sized in
     store-done (a .columns) (a .k) (a .«data» .now) (a .mask .now) (a .values .now) (a .counters .now) (a .cells .now) (s .pre .0) (s .pre .1 .0) _ _ (s .pre .1 .1) (i .result) (i .ensures)
-    (c .before .before .before .before .before .before .before .before .before .if1 .left) _ (c .before .before .before .before .before .before .before .misreads .ensures) _ _ (c .before .before .before .before .before .before .if2 .left) (c .accepted .ensures) (c .before .before .before .copy .ensures)))
+    (c .before .before .before .before .before .before .before .before .before .if1 .left) _ (c .before .before .before .before .before .before .before .misreads .ensures) _ _ (c .before .before .before .before .before .before .if2 .left) (c .counted .ensures) (c .before .before .before .copy .ensures)))

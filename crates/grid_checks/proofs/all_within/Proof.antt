@@ -1,6 +1,6 @@
 use native.Mathlib.Omega.{arith}
 use borrow.Author.Needs.{needs}
-use Rattle.grid_checks.proofs.JudgeLaws.{three-within, three-judged}
+use Rattle.grid_checks.proofs.JudgeLaws.{three-none-past, past-judged}
 use Rattle.grid_checks.proofs.all_within.Statement.{statement}
 use Rattle.grid_checks.proofs.all_within.Tie as tie
 
@@ -15,9 +15,9 @@ all-within-spec =
     -- returns
     (λ c.
     let a = c .before .before .before .before .args in
-    three-within (a .columns) (a .«data» .now) (a .mask .now) (a .values .now) (c .if1 .taken)
+    three-none-past (a .columns) (a .«data» .now) (a .mask .now) (a .values .now) (c .if1 .taken)
     (λ i. c .before .before .before .shared-slice-known .given i .fits) (λ i. c .before .before .shared-slice-known2 .given i .fits) (λ i. c .before .shared-slice-known3 .given i .fits))
     -- returns-2
     (λ c.
     let a = c .before .before .before .before .before .args in
-    three-judged (a .columns) (c .joined-three .result) _ (omega arith) (c .joined-three .ensures (a .columns))))
+    past-judged (a .columns) (c .joined-three .result) _ (omega arith) (c .joined-three .ensures (a .columns))))

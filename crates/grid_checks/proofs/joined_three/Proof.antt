@@ -1,43 +1,28 @@
-use Prim.Native.Nat.{_≤_, _-_}
-use native.Mathlib.Omega.{arith}
 use borrow.Author.Needs.{needs}
+use borrow.Author.Tests.{eqb-true}
+use lib.Dec.{eqb}
 use lib.ListN.{length}
-use Rattle.grid_checks.proofs.JudgeLaws.{JoinedThree, three-none, three-more, three-done}
+use Rattle.bits.proofs.TestLaws.{and-left, and-right}
+use Rattle.grid_checks.proofs.JudgeLaws.{three-apart}
 use Rattle.grid_checks.proofs.joined_three.Statement.{statement}
 use Rattle.grid_checks.proofs.joined_three.Tie as tie
-
-abbrev Inv-loop : tie.InvT-loop
-Inv-loop d mask values all₀ i₀ all i = JoinedThree d mask values i all × (i ≤ length d)
-
-abbrev μ-loop : tie.MeasureT-loop
-μ-loop d mask values all₀ i₀ all i = length d - i
 
 pub joined-three-spec : {M : Type 1} → statement M
 joined-three-spec =
     tie.close
     (tie.spec
-    Inv-loop
-    μ-loop
-    -- loop-holds
-    (λ c. (three-none (c .args .«data» .now) (c .args .mask .now) (c .args .values .now), omega arith))
-    -- mul-all, shared-slice-read-all
-    (λ c. search needs) (λ c. search needs)
-    -- mul-all-2, shared-slice-read-all-2
-    (λ c. search needs) (λ c. omega (arith, c .before .before .before .before .pre .0))
-    -- mul-all-3, shared-slice-read-all-3
-    (λ c. search needs) (λ c. omega (arith, c .before .before .before .before .before .pre .1))
-    -- add-i
-    (λ c. search needs)
-    -- loop-less
-    (λ c. search needs)
-    -- loop-again
-    (λ c.
-    let a = c .before .before .before .before .before .args in
-    let l = c .before .before .before .before .loop in
-    (three-more (a .«data» .now) (a .mask .now) (a .values .now) (l .i) (l .all) (l .inv .0), omega arith))
+    -- joined-in-one-pass-requires
+    (λ c κs.
+    let a = c .before .before .before .before .args in
+    let n = length (a .«data» .now) in
+    let same = c .if1 .taken in
+    (eqb-true (length (a .mask .now)) n (and-left _ _ same), eqb-true (length (a .values .now)) n (and-right (eqb (length (a .mask .now)) n) _ same)))
     -- returns
-    (λ c.
-    let s = c .before .before in
-    let a = s .args in
-    let l = c .before .loop in
-    three-done (a .«data» .now) (a .mask .now) (a .values .now) (l .i) (l .all) (omega arith) (s .pre .0) (s .pre .1) (l .inv .0)))
+    (λ c. c .joined-in-one-pass .ensures)
+    -- joined-requires, joined-requires-2, joined-requires-3
+    (λ c κs. search needs) (λ c κs. search needs) (λ c κs. search needs)
+    -- returns-2
+    (λ c n.
+    let a = c .before .before .before .before .before .before .before .args in
+    three-apart n (c .before .before .joined .result) (c .before .joined2 .result) (c .joined3 .result) (a .«data» .now) (a .mask .now) (a .values .now)
+    (c .before .before .joined .ensures n) (c .before .joined2 .ensures n) (c .joined3 .ensures n)))

@@ -17,4 +17,4 @@ within-spec =
     -- returns-2
     (λ c.
     let a = c .before .before .before .args in
-    past-judged (a .columns) (c .joined .result) (a .words .now) (omega arith) (c .joined .ensures (a .columns))))
+    past-judged (a .columns) (c .joined .result) _ (omega arith) (c .joined .ensures (a .columns))))

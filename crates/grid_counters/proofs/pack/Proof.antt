@@ -1,7 +1,7 @@
 use borrow.Author.Needs.{needs}
 use borrow.Author.Tests.{not-true, not-false}
 use native.Mathlib.Omega.{arith}
-use mathlib.Core.Path.{_≡_, sym, ap, subst, refl, _∙_}
+use mathlib.Core.Path.{_≡_, sym, ap, ap₂, subst, refl, _∙_}
 use mathlib.Core.Bool.{true}
 use Prim.Native.Nat.{_+_, _^_, _<_, _≤_}
 use lib.ListN.{length}
@@ -26,14 +26,15 @@ room : (e : tie.Else1) → let a = begin e .args in (a .used < 2 ^ width (a .k))
 room e = let a = begin e .args in packs (a .k) (a .rows) (a .columns) (a .used) (length (a .out .now)) (can e)
 
 -- the width is 3
-wide : (t : tie.Then2) → width (begin (t .before .before) .args .k) ≡ 3
-wide t = sym (t .before .width .ensures) ∙ t .if2 .taken
+wide : (t : tie.Then3) → width (begin (t .before .before .before) .args .k) ≡ 3
+wide t = sym (t .before .before .width .ensures) ∙ t .if3 .taken
 
 -- or it is 1 or 2
-narrow : (t : tie.Else2) → (0 < t .before .width .result) × (t .before .width .result ≤ 2)
+narrow : (t : tie.Else3) → let w = t .before .before .width .result in (0 < w) × (w ≤ 2)
 narrow t =
-    let k = begin (t .before .before) .args .k in
-    (omega (arith, t .before .width .ensures, width-some k), omega (arith, t .before .width .ensures, width-few k, t .if2 .left))
+    let w = t .before .before in
+    let k = begin (w .before) .args .k in
+    (omega (arith, w .width .ensures, width-some k), omega (arith, w .width .ensures, width-few k, t .if3 .left))
 
 pub pack-spec : {M : Type 1} → statement M
 pack-spec =
@@ -45,13 +46,13 @@ pack-spec =
     (λ c. record { bytes = λ h. clash h (sym (c .before .packable .ensures) ∙ not-true _ (c .if1 .taken)); untouched = λ _. refl })
     -- width-requires
     (λ c κs. search needs)
-    -- pack-threes-requires
+    -- pack-one-requires
     (λ c κs.
-    let t = c .before in
-    let e = t .before .before in
-    let r = room e in
-    let a = begin e .args in
-    (subst (λ w. a .used < 2 ^ w) (wide t) (r .0), r .1 .rows, r .1 .columns, r .1 .size ∙ ap (λ w. bytesFor w (a .rows + a .columns)) (wide t)))
+    let w = c .before .before in
+    let r = room (w .before) .1 in
+    let a = begin (w .before) .args in
+    let k = w .width .ensures in
+    (omega (arith, k, width-some (a .k)), omega (arith, k, width-few (a .k)), r .rows, r .columns, r .size ∙ ap (λ w. bytesFor w (a .rows + a .columns)) (sym k)))
     -- same-length
     (λ c. search needs)
     -- returns-2
@@ -61,27 +62,48 @@ pack-spec =
     let e = t .before .before in
     let a = begin e .args in
     record {
-      bytes = λ _. p .pack-threes .ensures ∙ ap (λ w. packed w (inOrder (a .rows) (a .columns) (times (a .rowsets .now) (a .used)) (times (a .columnsets .now) (a .used)))) (sym (wide t));
+      bytes = λ _.
+          p .pack-one .ensures
+          ∙ ap₂ (λ w u. packed w (inOrder (a .rows) (a .columns) (times (a .rowsets .now) u) (times (a .columnsets .now) u))) (t .before .width .ensures) (sym (t .if2 .taken));
       untouched = λ h. clash (can e) h;
     })
-    -- tally-requires, tally-requires-2
-    (λ c κs. let r = room (c .before .before) in (levels-few _ _ (r .0), r .1 .rows)) (λ c κs. let r = room (c .before .before .before) in (levels-few _ _ (r .0), r .1 .columns))
-    -- first-requires, second-requires
-    (λ c κs. room (c .before .before .before .before .before) .1 .rows) (λ c κs. room (c .before .before .before .before .before .before) .1 .rows)
-    -- fill-requires
-    (λ c κs. narrow (c .before .before .before .before .before))
+    -- pack-threes-requires
+    (λ c κs.
+    let t = c .before in
+    let e = t .before .before .before in
+    let r = room e in
+    let a = begin e .args in
+    (subst (λ w. a .used < 2 ^ w) (wide t) (r .0), r .1 .rows, r .1 .columns, r .1 .size ∙ ap (λ w. bytesFor w (a .rows + a .columns)) (wide t)))
     -- same-length-2
     (λ c. search needs)
     -- returns-3
     (λ c.
+    let p = c .before .before in
+    let t = p .before .before in
+    let e = t .before .before .before in
+    let a = begin e .args in
+    record {
+      bytes = λ _. p .pack-threes .ensures ∙ ap (λ w. packed w (inOrder (a .rows) (a .columns) (times (a .rowsets .now) (a .used)) (times (a .columnsets .now) (a .used)))) (sym (wide t));
+      untouched = λ h. clash (can e) h;
+    })
+    -- tally-requires, tally-requires-2
+    (λ c κs. let r = room (c .before .before .before) in (levels-few _ _ (r .0), r .1 .rows)) (λ c κs. let r = room (c .before .before .before .before) in (levels-few _ _ (r .0), r .1 .columns))
+    -- first-requires, second-requires
+    (λ c κs. room (c .before .before .before .before .before .before) .1 .rows) (λ c κs. room (c .before .before .before .before .before .before .before) .1 .rows)
+    -- fill-requires
+    (λ c κs. narrow (c .before .before .before .before .before))
+    -- same-length-3
+    (λ c. search needs)
+    -- returns-4
+    (λ c.
     let d = c .before .before in
     let k = d .before .before .before .before in
     let t = k .before .before in
-    let w = t .before in
+    let w = t .before .before in
     let e = w .before in
     let r = room e in
     let a = begin e .args in
-    let long : length (d .fill .last .0) ≡ length (a .out .now) = omega (arith, c .before .out2 .given) in
+    let long : length (d .fill .last .0) ≡ length (a .out .now) = omega (arith, c .before .out3 .given) in
     record {
       bytes = λ _.
           all-packed (a .rows) (a .columns) (times (a .rowsets .now) (a .used)) (times (a .columnsets .now) (a .used)) (r .1 .rows) (r .1 .columns) (width (a .k)) (width-some (a .k))

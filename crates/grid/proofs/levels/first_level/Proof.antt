@@ -7,7 +7,7 @@ use Rattle.bits.specs.Bits.{Below}
 use Rattle.bits.proofs.BitLaws.{clear-less}
 use Rattle.grid.proofs.CountLaws.{counting-few}
 use Rattle.grid.proofs.LevelLaws.{walk-inside}
-use Rattle.grid.proofs.DescendLaws.{Beginning, begin-starts, begin-more, begin-done}
+use Rattle.grid.proofs.FirstLaws.{Beginning, begin-starts, begin-more, begin-done}
 use Rattle.grid.proofs.levels.first_level.Statement.{statement}
 use Rattle.grid.proofs.levels.first_level.Tie as tie
 

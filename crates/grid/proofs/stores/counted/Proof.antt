@@ -1,13 +1,15 @@
 use Prim.Native.Nat.{_^_, _≤_, _<_}
+use mathlib.Core.Path.{sym, subst}
 use native.Mathlib.Omega.{arith}
 use borrow.Author.Needs.{needs}
 use lib.Count.{ones, ones-le, trailingZeros}
 use lib.ListN.{length, getD}
 use Rattle.bits.specs.Bits.{Below}
 use Rattle.bits.proofs.BitLaws.{clear-less}
+use Rattle.grid.specs.Steps.{Accepts}
 use Rattle.grid.proofs.CountLaws.{Counting, counting-starts, counting-few, counting-inside, counting-more, counting-least, counting-done}
-use Rattle.grid.proofs.answers.accepted.Statement.{statement}
-use Rattle.grid.proofs.answers.accepted.Tie as tie
+use Rattle.grid.proofs.stores.counted.Statement.{statement}
+use Rattle.grid.proofs.stores.counted.Tie as tie
 
 abbrev Inv-loop : tie.InvT-loop
 Inv-loop levels d mask values faults₀ wrong₀ rest₀ faults wrong rest = Counting d mask values faults wrong rest
@@ -31,8 +33,8 @@ few c = counting-few _ _ _ (begin c .pre .few) (masks-fit c) _ _ _ (c .before .l
 row-few : (c : tie.In-loop Inv-loop μ-loop) → ones (getD (begin c .args .mask .now) (trailingZeros 64 (c .before .loop .rest)) 0) ≤ 64
 row-few c = ones-le 64 _ (masks-fit c (trailingZeros 64 (c .before .loop .rest)))
 
-pub accepted-spec : {M : Type 1} → statement M
-accepted-spec =
+pub counted-spec : {M : Type 1} → statement M
+counted-spec =
     tie.close
     (tie.spec
     Inv-loop
@@ -77,13 +79,15 @@ accepted-spec =
     (λ c.
     let l = c .before .before .before .before .before in
     counting-more _ _ _ (begin l .pre .few) (masks-fit l) _ _ _ (l .before .loop .inv) (l .loop-test .taken) (c .stuck-as .result) (omega arith) (c .stuck-as .ensures))
-    -- sub-t23
-    (λ c.
+    -- accepted-requires
+    (λ c κs.
     let s = c .before .before .before .before .before .before in
     let l = c .before .loop in
-    let fits : Below (2 ^ 64) (s .args .mask .now) = λ i. c .before .before .before .before .shared-slice-known2 .given i .fits in
-    omega (arith, counting-few _ _ _ (s .pre .few) fits _ _ _ (l .inv), counting-least _ _ _ (s .pre .few) fits _ _ _ (l .inv) (c .loop-test .left)))
+    counting-least _ _ _ (s .pre .few) (λ i. c .before .before .before .before .shared-slice-known2 .given i .fits) _ _ _ (l .inv) (c .loop-test .left))
     -- returns
     (λ c.
-    let s = c .before .before .before .before .before .before in
-    counting-done _ _ _ (s .pre .few) (λ i. c .before .before .before .before .shared-slice-known2 .given i .fits) _ _ _ (c .before .loop .inv) (c .loop-test .left) (s .args .levels)))
+    let l = c .before in
+    let s = l .before .before .before .before .before .before in
+    let a = s .args in
+    subst (Accepts (a .«data» .now) (a .mask .now) (a .values .now) (a .levels)) (sym (c .accepted .ensures))
+    (counting-done _ _ _ (s .pre .few) (λ i. l .before .before .before .before .shared-slice-known2 .given i .fits) _ _ _ (l .before .loop .inv) (l .loop-test .left) (a .levels))))

@@ -3,8 +3,8 @@ use Prim.Native.Nat.{_^_}
 use native.Mathlib.Nat.{zero-mul, one-mul}
 use borrow.Author.Needs.{needs}
 use Rattle.bits.proofs.BitLaws.{one-shl}
-use Rattle.grid.proofs.levels.mark_if.Statement.{statement}
-use Rattle.grid.proofs.levels.mark_if.Tie as tie
+use Rattle.grid.proofs.stuck.mark_if.Statement.{statement}
+use Rattle.grid.proofs.stuck.mark_if.Tie as tie
 
 pub mark-if-spec : {M : Type 1} → statement M
 mark-if-spec =

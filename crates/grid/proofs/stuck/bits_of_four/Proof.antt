@@ -6,9 +6,9 @@ use borrow.Author.Needs.{needs}
 use lib.Dec.{eqb}
 use lib.ListN.{getD}
 use Rattle.bits.specs.Bits.{num}
-use Rattle.grid.proofs.CountLaws.{four-bits}
-use Rattle.grid.proofs.levels.bits_of_four.Statement.{statement}
-use Rattle.grid.proofs.levels.bits_of_four.Tie as tie
+use Rattle.grid.proofs.StuckLaws.{four-bits}
+use Rattle.grid.proofs.stuck.bits_of_four.Statement.{statement}
+use Rattle.grid.proofs.stuck.bits_of_four.Tie as tie
 
 pub bits-of-four-spec : {M : Type 1} → statement M
 bits-of-four-spec =

@@ -6,9 +6,9 @@ use native.Mathlib.Omega.{arith}
 use borrow.Author.Needs.{needs}
 use lib.Dec.{eqb}
 use lib.ListN.{length, getD}
-use Rattle.grid.proofs.CountLaws.{From, mark-few, from-end, from-few, from-more, from-room, from-eight, from-start, four-few}
-use Rattle.grid.proofs.levels.stuck_rows.Statement.{statement}
-use Rattle.grid.proofs.levels.stuck_rows.Tie as tie
+use Rattle.grid.proofs.StuckLaws.{From, mark-few, from-end, from-few, from-more, from-room, from-eight, from-start, four-few}
+use Rattle.grid.proofs.stuck.stuck_rows.Statement.{statement}
+use Rattle.grid.proofs.stuck.stuck_rows.Tie as tie
 
 -- row i holds a stuck cell
 abbrev holds : List ℕ → ℕ → Bool
