@@ -16,7 +16,7 @@ use Rattle.grid_promises.proofs.ConvertLaws.{convert-in-range, convert-sized}
 use Rattle.grid_promises.proofs.ConvertDemands.{convert-demands}
 use Rattle.grid_promises.proofs.IndexLaws.{no-index, index-is}
 use Rattle.grid_checks.specs.Numbers.{convertJudged}
-use Rattle.grid.proofs.Returns.{stands, passes, not-four}
+use Rattle.grid_levels.proofs.Returns.{stands, passes, not-four}
 
 module _ (m n k k′ : ℕ) (counters out : List ℕ) (bytes : Below 256 counters) (x : ℕ) (e : x ≡ convertJudged m n k k′ (length counters) (length out)) where
   -- numbers and lengths that are wrong

@@ -1,11 +1,4 @@
-pub mod StuckLaws
-pub mod CountLaws
-pub mod LevelLaws
-pub mod DescendLaws
-pub mod FirstLaws
-pub mod Returns
 pub mod ShowLaws
 pub mod MisreadLaws
-pub mod PlanLaws
 pub mod StoreLaws
 pub mod ConvertLaws

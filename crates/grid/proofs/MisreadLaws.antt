@@ -16,7 +16,7 @@ use Rattle.bits.proofs.BoundLaws.{some-ext}
 use Rattle.bits.proofs.BitLaws.{has-or, has-zero, some-has}
 use Rattle.rdis.specs.Block.{bit}
 use Rattle.grid.specs.Steps.{anyDiffers}
-use Rattle.grid.proofs.StuckLaws.{wrong-bits}
+use Rattle.grid_levels.proofs.StuckLaws.{wrong-bits}
 
 -- after i rows: the columns in which a cell was seen that is stuck at another bit than that of the words x
 pub record Seen (x mask values : List ℕ) (i wrong : ℕ) : Type 0 where

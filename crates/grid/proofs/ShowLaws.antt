@@ -28,7 +28,7 @@ use Rattle.grid_patterns.proofs.InvertLaws.{can-invert}
 use Rattle.grid_checks.specs.Numbers.{judged, readJudged}
 use Rattle.grid.specs.declared.shows.Shown.{Shown}
 use Rattle.grid.specs.Steps.{ShowSized, Shows}
-use Rattle.grid.proofs.Returns.{stands, passes, not-four}
+use Rattle.grid_levels.proofs.Returns.{stands, passes, not-four}
 
 module _ (m n k : ℕ) (cells counters out : List ℕ) where
   refused-show : (s : Shown) → s .levels ≡ 0 → s .index ≡ badIndex k (m + n) counters (s .number) → (s .number ≡ 0 → ⊥)

@@ -27,8 +27,9 @@ use Rattle.grid_promises.proofs.StoreDemands.{store-demands}
 use Rattle.grid_promises.proofs.IndexLaws.{no-index}
 use Rattle.grid_checks.specs.Numbers.{judged, storeJudged}
 use Rattle.grid.specs.declared.shows.Shown.{Shown}
-use Rattle.grid.specs.Steps.{ShowSized, blockOf, Rows, StoreSized, Refuses, Accepts, Shows, anyDiffers}
-use Rattle.grid.proofs.Returns.{stands, passes, not-four, none-of, mask-inside}
+use Rattle.grid_levels.specs.Steps.{blockOf, Rows, Refuses, Accepts}
+use Rattle.grid.specs.Steps.{ShowSized, StoreSized, Shows, anyDiffers}
+use Rattle.grid_levels.proofs.Returns.{stands, passes, not-four, none-of, mask-inside}
 
 refused-store : (b : Block) (k : ℕ) (counters cells : List ℕ) (a : Answer) (x t : ℕ) → (x ≡ 0 → ⊥) → x ≡ storeNumber b k counters (length cells)
     → t ≡ badIndex k (b .rows + b .columns) counters x → Refuses x t a → Store b k counters cells a cells

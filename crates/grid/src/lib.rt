@@ -1,28 +1,22 @@
 // Grid blocks: a grid of cells, one word a row, and a counter for each row and each column.
-mod answers;
-mod levels;
 mod shows;
 mod stores;
-mod stuck;
 
-use crate::answers::accepted;
-use crate::answers::refused;
+use grid_levels::refused;
 use grid_promises::Answer;
 use grid_promises::ConvertAnswer;
 use grid_promises::ReadAnswer;
-use grid_sets::LEVELS;
 use grid_sets::LINES;
 use refusals::ACCEPTED;
 use refusals::BIT_PAST_END;
 use refusals::MISREAD;
-use refusals::UNMASKABLE;
 ghost use mathlib.Core.Path.{_≡_};
 ghost use mathlib.Core.Bool.{false};
 ghost use lib.ListN.{length};
 ghost use Rattle.grid_promises.specs.Promises.{Read, Plan, Store};
 ghost use Rattle.grid_promises.specs.Calls.{block, planPast};
 ghost use Rattle.grid_promises.specs.Conversion.{Convert};
-ghost use Rattle.grid.specs.Steps.{PlanSized, StoreSized};
+ghost use Rattle.grid.specs.Steps.{StoreSized};
 
 // Reads a block into `out` by its counters, whoever made them.
 pub fn read(
@@ -54,68 +48,7 @@ pub fn plan(
 ) -> Answer
     ensures { λ r. ⌜ Plan (block rows columns (now («data» .entry)) (now (mask .entry)) (now (values .entry))) k (now (counters .entry)) r (now (counters .exit)) ⌝ }
 {
-    let number = grid_checks::plan_number(
-        rows,
-        columns,
-        k,
-        data.len(),
-        mask.len(),
-        values.len(),
-        counters.len(),
-    );
-    if number != ACCEPTED {
-        return refused(number, 0);
-    }
-    plan_sized(columns, k, data, mask, values, counters)
-}
-
-// The plan of numbers in range and buffers that are as long as they should be.
-fn plan_sized(
-    columns: usize,
-    k: usize,
-    data: &[u64],
-    mask: &[u64],
-    values: &[u64],
-    counters: &mut [u8],
-) -> Answer
-    requires { ⌜ PlanSized columns k (now «data») (now mask) (now values) (now counters) ⌝ }
-    ensures { λ r. ⌜ Plan (block (length (now («data» .entry))) columns (now («data» .entry)) (now (mask .entry)) (now (values .entry))) k (now (counters .entry)) r (now (counters .exit)) ⌝ }
-{
-    if !grid_checks::all_within(data, mask, values, columns) {
-        return refused(BIT_PAST_END, 0);
-    }
-    let f = levels::first_level(data, mask, values);
-    if f.rows == 0 {
-        grid_counters::clear(counters);
-        return accepted(0, f.faults, f.wrong);
-    }
-    let mut rowsets = [0u64; LEVELS];
-    let mut columnsets = [0u64; LEVELS];
-    let used = levels::descend(
-        &data,
-        &mask,
-        &values,
-        f.rows,
-        f.columns,
-        true,
-        k,
-        0,
-        &mut rowsets,
-        &mut columnsets,
-    );
-    if used > k {
-        return refused(UNMASKABLE, 0);
-    }
-    grid_counters::pack(
-        k,
-        data.len(),
-        columns,
-        used,
-        &rowsets,
-        &columnsets,
-        counters,
-    );
-    accepted(used, f.faults, f.wrong)
+    grid_levels::plan(rows, columns, k, data, mask, values, counters)
 }
 
 // Stores the data by counters, whoever made them; or refuses where a stuck cell would then read wrong, and stores nothing.

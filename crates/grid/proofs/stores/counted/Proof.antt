@@ -1,13 +1,13 @@
 use Prim.Native.Nat.{_^_, _≤_, _<_}
-use mathlib.Core.Path.{sym, subst}
 use native.Mathlib.Omega.{arith}
 use borrow.Author.Needs.{needs}
 use lib.Count.{ones, ones-le, trailingZeros}
 use lib.ListN.{length, getD}
 use Rattle.bits.specs.Bits.{Below}
 use Rattle.bits.proofs.BitLaws.{clear-less}
-use Rattle.grid.specs.Steps.{Accepts}
-use Rattle.grid.proofs.CountLaws.{Counting, counting-starts, counting-few, counting-inside, counting-more, counting-least, counting-done}
+use Rattle.grid_levels.specs.Steps.{Accepts}
+use Rattle.grid_levels.proofs.StuckLaws.{rows-few}
+use Rattle.grid_levels.proofs.CountLaws.{Counting, counting-starts, counting-few, counting-inside, counting-more, counting-least, counting-done}
 use Rattle.grid.proofs.stores.counted.Statement.{statement}
 use Rattle.grid.proofs.stores.counted.Tie as tie
 
@@ -40,9 +40,11 @@ counted-spec =
     Inv-loop
     μ-loop
     -- stuck-rows-requires
-    (λ c κs. let p = c .before .before .before .pre in omega (arith, p .few, p .masks))
+    (λ c κs. search needs)
     -- loop-holds
-    (λ c. counting-starts _ _ _ _ (c .before .before .before .before .pre .masks) (c .stuck-rows .ensures))
+    (λ c.
+    let s = c .before .before .before .before in
+    counting-starts _ _ _ _ (s .pre .masks) (rows-few (s .args .mask .now) _ (omega (arith, s .pre .few, s .pre .masks)) (c .stuck-rows .ensures)))
     -- cast-i
     (λ c. omega (arith, inside c, begin c .pre .few))
     -- mul-faults
@@ -53,24 +55,24 @@ counted-spec =
     (λ c. omega (arith, row-few (c .before)))
     -- add-faults
     (λ c. omega (arith, few (c .before), row-few (c .before)))
-    -- mul-stuck-as
+    -- mul-wrong-cells
     (λ c. omega (arith, inside (c .before), begin (c .before) .pre .few))
-    -- shared-slice-read-stuck-as
+    -- shared-slice-read-wrong-cells
     (λ c. omega (arith, inside (c .before .before)))
-    -- mul-stuck-as-2
+    -- mul-wrong-cells-2
     (λ c. omega (arith, inside (c .before .before), begin (c .before .before) .pre .few))
-    -- shared-slice-read-stuck-as-2
+    -- shared-slice-read-wrong-cells-2
     (λ c. omega (arith, inside (c .before .before .before), begin (c .before .before .before) .pre .masks))
-    -- mul-stuck-as-3
+    -- mul-wrong-cells-3
     (λ c. omega (arith, inside (c .before .before .before), begin (c .before .before .before) .pre .few))
-    -- shared-slice-read-stuck-as-3
+    -- shared-slice-read-wrong-cells-3
     (λ c. omega (arith, inside (c .before .before .before .before), begin (c .before .before .before .before) .pre .stuckAt))
-    -- stuck-as-requires
+    -- wrong-cells-requires
     (λ c κs. search needs)
     -- cast-wrong
-    (λ c. omega (arith, ones-le 64 (c .stuck-as .result) (omega arith)))
+    (λ c. omega (arith, ones-le 64 (c .wrong-cells .result) (omega arith)))
     -- add-wrong
-    (λ c. omega (arith, few (c .before .before .before .before .before), ones-le 64 (c .stuck-as .result) (omega arith)))
+    (λ c. omega (arith, few (c .before .before .before .before .before), ones-le 64 (c .wrong-cells .result) (omega arith)))
     -- sub-rest
     (λ c. search needs)
     -- loop-less
@@ -78,16 +80,14 @@ counted-spec =
     -- loop-again
     (λ c.
     let l = c .before .before .before .before .before in
-    counting-more _ _ _ (begin l .pre .few) (masks-fit l) _ _ _ (l .before .loop .inv) (l .loop-test .taken) (c .stuck-as .result) (omega arith) (c .stuck-as .ensures))
-    -- accepted-requires
-    (λ c κs.
+    counting-more _ _ _ (begin l .pre .few) (masks-fit l) _ _ _ (l .before .loop .inv) (l .loop-test .taken) (c .wrong-cells .result) (omega arith) (c .wrong-cells .ensures))
+    -- sub-result
+    (λ c.
     let s = c .before .before .before .before .before .before in
     let l = c .before .loop in
     counting-least _ _ _ (s .pre .few) (λ i. c .before .before .before .before .shared-slice-known2 .given i .fits) _ _ _ (l .inv) (c .loop-test .left))
     -- returns
     (λ c.
-    let l = c .before in
-    let s = l .before .before .before .before .before .before in
+    let s = c .before .before .before .before .before .before in
     let a = s .args in
-    subst (Accepts (a .«data» .now) (a .mask .now) (a .values .now) (a .levels)) (sym (c .accepted .ensures))
-    (counting-done _ _ _ (s .pre .few) (λ i. l .before .before .before .before .shared-slice-known2 .given i .fits) _ _ _ (l .before .loop .inv) (l .loop-test .left) (a .levels))))
+    counting-done _ _ _ (s .pre .few) (λ i. c .before .before .before .before .shared-slice-known2 .given i .fits) _ _ _ (c .before .loop .inv) (c .loop-test .left) (a .levels)))
