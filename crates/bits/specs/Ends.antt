@@ -8,7 +8,7 @@ use lib.ListN.{length}
 abbrev pub Alike : {A : Type 0} → (A → List ℕ → Type 0) → (A → List ℕ → Type 0) → Type 0
 Alike {A} P Q = (a a′ : A) (x x′ : List ℕ) → P a x → Q a′ x′ → (a ≡ a′) × (x ≡ x′)
 
--- P allows one end
+-- P allows no second end
 abbrev pub One : {A : Type 0} → (A → List ℕ → Type 0) → Type 0
 One P = Alike P P
 

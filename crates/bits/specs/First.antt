@@ -1,5 +1,5 @@
--- The answer of a call that may be refused for several reasons: a list of lines, and the first of it that applies. An order that the numbers do not give is
--- said so too. Assumes nothing.
+-- The answer of a call that may be refused for several reasons: a list of lines, and the first of it that applies. Their order need not be that of the
+-- numbers. Assumes nothing.
 use Prim.Native.Nat.{ℕ}
 use mathlib.Core.Path.{_≡_}
 use mathlib.Core.Bool.{Bool, true, _&&_}
@@ -28,11 +28,11 @@ abbrev pub Applies : List Refusal → ℕ → Type 0
 Applies [] y = ⊥
 Applies ((o when P) ∷ rs) y = (P × (y ≡ o)) ⊎ Applies rs y
 
--- the numbers rise, the first of them from above b
+-- the numbers rise, and the first of them is above b
 abbrev pub rising : ℕ → List Refusal → Bool
 rising b [] = true
 rising b ((o when P) ∷ rs) = ltb b o && rising o rs
 
--- the first line that applies is then the lowest number that does, and the lowest is the first
+-- then the number of the first line that applies is the lowest that applies, and the other way round
 abbrev pub RisingLowest : Type 1
 RisingLowest = (rs : List Refusal) (x : ℕ) → rising 0 rs ≡ true → First rs x ↔ Lowest (Applies rs) x

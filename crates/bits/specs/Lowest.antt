@@ -3,7 +3,7 @@ use Prim.Native.Nat.{ℕ, _<_}
 use mathlib.Core.Path.{_≡_}
 
 -- x is the lowest number that applies, or 0 where none does
-pub record Lowest (Applies : ℕ → Type 0) (x : ℕ) : Type 0 where
-  pub applies : 0 < x → Applies x
-  pub lowest : (y : ℕ) → y < x → Applies y → ⊥
-  pub none : x ≡ 0 → (y : ℕ) → Applies y → ⊥
+pub record Lowest (P : ℕ → Type 0) (x : ℕ) : Type 0 where
+  pub applies : 0 < x → P x
+  pub lowest : (y : ℕ) → y < x → P y → ⊥
+  pub none : x ≡ 0 → (y : ℕ) → P y → ⊥

@@ -1,4 +1,4 @@
--- Every theorem of this crate, a field each: proofs/Claims.antt has the value, so one that loses its proof fails the check. Assumes nothing.
+-- Every theorem of this crate, a field each: proofs/Claims.antt has the value, so a theorem without a proof fails the check. Assumes nothing.
 use Rattle.fragment_promises.specs.Promises.{OneStart, OneLump, OneFinish, OneStartByDemands, OneLumpByDemands, OneFinishByDemands, StartLowest, LumpLowest, FinishMeasured}
 use Rattle.fragment_promises.specs.Sequences.{AsDefined, EveryLump, EveryFinish, Whole, Sent, StoreThenSend, WrongOutput, Short, Long, Bad, EveryStart, EverAfter, NotTaken, Joined, TwoCuttings, AnyCutting, EmptyLump, FinishBetween, StartsAfresh, Stays}
 

@@ -29,6 +29,7 @@ Good t = InRange (t .rows) (t .columns) (t .k)
 
 -- ---- a start
 
+-- its one refusal
 abbrev pub startRefusals : ℕ → ℕ → ℕ → List Refusal
 startRefusals m n k = (1 when (InRange m n k → ⊥)) ∷ []
 
@@ -43,7 +44,7 @@ pub record StartDemands (m n k : ℕ) (s : Step) : Type 0 where
 
 -- ---- a lump of these bytes, lent any record t
 
--- 9 where the bytes taken, with the `more` of this lump, are more than the block has
+-- the refusals of a lump of `more` bytes, in the order in which they are judged: 9 where, with those taken before, they are more than the block has
 abbrev pub lumpRefusals : Transfer → ℕ → List Refusal
 lumpRefusals t more = (1 when (Good t → ⊥)) ∷ (9 when (sizeOf t < t .taken + more)) ∷ []
 

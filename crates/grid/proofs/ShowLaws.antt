@@ -30,9 +30,9 @@ use Rattle.grid.specs.declared.shows.Shown.{Shown}
 use Rattle.grid.specs.Steps.{ShowSized, Shows}
 use Rattle.grid_levels.proofs.Returns.{stands, passes, not-four}
 
-module _ (m n k : ℕ) (cells counters out : List ℕ) where
+module _ (m n k upto : ℕ) (cells counters out : List ℕ) where
   refused-show : (s : Shown) → s .levels ≡ 0 → s .index ≡ badIndex k (m + n) counters (s .number) → (s .number ≡ 0 → ⊥)
-      → s .number ≡ readNumber m n k cells counters (length out) → Shows m n k cells counters out s out
+      → s .number ≡ readNumber m n k cells counters (length out) → Shows m n k upto cells counters out s out
   refused-show s w i l e = record {
     reads = read-demands m n k cells counters out (record { number = s .number; index = s .index }) out (record { number = e; indexIs = i; untouched = λ _. refl; shown = λ z. absurd (l z) });
     uncounted = λ _. w;
@@ -46,7 +46,7 @@ module _ (m n k : ℕ) (cells counters out : List ℕ) where
     unfolding judged
     by-tests = e
 
-    pub show-judged : (s : Shown) → s .levels ≡ 0 → s .index ≡ 0 → s .number ≡ x → (x ≡ 0 → ⊥) → Shows m n k cells counters out s out
+    pub show-judged : (s : Shown) → s .levels ≡ 0 → s .index ≡ 0 → s .number ≡ x → (x ≡ 0 → ⊥) → Shows m n k upto cells counters out s out
     unfolding readNumber
     show-judged s w i y h =
         refused-show s w (i ∙ sym (no-index k (m + n) counters (s .number) (λ z. not-four (inRange m n k) (readSized m n k (length cells) (length counters) (length out)) (sym by-tests ∙ sym y ∙ z)))) (λ z. h (sym y ∙ z)) (y ∙ by-tests ∙ stands (inRange m n k) (readSized m n k (length cells) (length counters) (length out)) _ (λ z. h (by-tests ∙ z)))
@@ -59,7 +59,7 @@ module _ (m n k : ℕ) (cells counters out : List ℕ) where
       lengths : ReadLengths m n k (length cells) (length counters) (length out)
       lengths = read-sized m n k (length cells) (length counters) (length out) .0 (right .1)
 
-      pub show-past : (s : Shown) → s .levels ≡ 0 → s .index ≡ 0 → s .number ≡ 3 → past n cells ≡ true → Shows m n k cells counters out s out
+      pub show-past : (s : Shown) → s .levels ≡ 0 → s .index ≡ 0 → s .number ≡ 3 → past n cells ≡ true → Shows m n k upto cells counters out s out
       unfolding readNumber
       show-past s w i y h =
           refused-show s w (i ∙ sym (no-index k (m + n) counters (s .number) (λ z. omega (arith, y)))) (λ z. omega (arith, y)) (y ∙ rw (right .0, right .1, h))
@@ -69,12 +69,12 @@ module _ (m n k : ℕ) (cells counters out : List ℕ) where
           let l = lengths in
           record { ranges = rw (l .cellWords) (right .0); sizes = rw (l .cellWords) (l .counterBytes); room = l .outWords ∙ sym (l .cellWords); inside = inside }
 
-      pub show-comes-back : (s : Shown) (after : List ℕ) → Shows (length cells) n k cells counters out s after → Shows m n k cells counters out s after
-      show-comes-back s after r = subst (λ y. Shows y n k cells counters out s after) (lengths .cellWords) r
+      pub show-comes-back : (s : Shown) (after : List ℕ) → Shows (length cells) n k upto cells counters out s after → Shows m n k upto cells counters out s after
+      show-comes-back s after r = subst (λ y. Shows y n k upto cells counters out s after) (lengths .cellWords) r
 
 -- ---- the counters
 
-module _ (n k : ℕ) (cells counters out : List ℕ) (p : ShowSized n k cells counters out) where
+module _ (n k upto : ℕ) (cells counters out : List ℕ) (p : ShowSized n k cells counters out) where
   range : InRange (length cells) n k
   range = in-range (length cells) n k .0 (p .ranges)
 
@@ -95,9 +95,9 @@ module _ (n k : ℕ) (cells counters out : List ℕ) (p : ShowSized n k cells co
     unfolding readNumber
     read-number = number-is ∙ rw (p .ranges, sizes, p .inside)
 
-    pub show-refused : (s : Shown) → s .levels ≡ 0 → s .index ≡ c .index → s .number ≡ c .number → (c .number ≡ 0 → ⊥) → Shows (length cells) n k cells counters out s out
+    pub show-refused : (s : Shown) → s .levels ≡ 0 → s .index ≡ c .index → s .number ≡ c .number → (c .number ≡ 0 → ⊥) → Shows (length cells) n k upto cells counters out s out
     show-refused s w i e h =
-        refused-show (length cells) n k cells counters out s w (index-is k (length cells + n) counters (s .number) (s .index) (λ f. i ∙ u .names (sym e ∙ f)) (λ f. i ∙ u .namesNone (λ g. f (e ∙ g)))) (λ z. h (sym e ∙ z)) (e ∙ read-number)
+        refused-show (length cells) n k upto cells counters out s w (index-is k (length cells + n) counters (s .number) (s .index) (λ f. i ∙ u .names (sym e ∙ f)) (λ f. i ∙ u .namesNone (λ g. f (e ∙ g)))) (λ z. h (sym e ∙ z)) (e ∙ read-number)
 
     module _ (z : c .number ≡ 0) where
       low : (t : ℕ) → t < length cells + n → counter (width k) counters t ≤ k
@@ -130,8 +130,8 @@ module _ (n k : ℕ) (cells counters out : List ℕ) (p : ShowSized n k cells co
           ap₂ (λ x y. filled x y k) (u .rowSets room) (u .columnSets room)
           ∙ filled-most (length cells) n k (counter (width k) counters) (omega (arith, range .levels .1)) (omega (arith, low t l))
 
-      pub show-done : (s : Shown) (after : List ℕ) → s .number ≡ 0 → s .index ≡ 0 → s .levels ≡ filled (c .rows) (c .columns) k → Invert (c .rows) (c .columns) k cells out after
-          → Shows (length cells) n k cells counters out s after
+      pub show-done : (s : Shown) (after : List ℕ) → s .number ≡ 0 → s .index ≡ 0 → s .levels ≡ filled (c .rows) (c .columns) upto → Invert (c .rows) (c .columns) k cells out after
+          → Shows (length cells) n k upto cells counters out s after
       show-done s after e x l i = record {
         reads = read-demands (length cells) n k cells counters out (record { number = s .number; index = s .index }) after (record {
           number = e ∙ sym z ∙ read-number;
@@ -140,5 +140,5 @@ module _ (n k : ℕ) (cells counters out : List ℕ) (p : ShowSized n k cells co
           shown = λ _. shows after i;
         });
         uncounted = λ f. absurd (f e);
-        greatest = λ _. l ∙ depth-is;
+        greatest = λ _ f. l ∙ ap (filled (c .rows) (c .columns)) f ∙ depth-is;
       }

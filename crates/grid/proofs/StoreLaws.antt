@@ -153,7 +153,7 @@ module _ (n k : ℕ) (d mask values counters cells : List ℕ) (s : StoreSized n
   shows-on inside apart l =
       record { ranges = s .planned .ranges; sizes = s .planned .sizes; room = l; inside = none-of (past n d) (past n mask) (past n values) inside .0 }
 
-  module _ (inside : planPast own ≡ false) (apart apart′ : List ℕ) (l : length apart ≡ length d) (r : Shown) (i : Shows (length d) n k d counters apart r apart′) where
+  module _ (inside : planPast own ≡ false) (apart apart′ : List ℕ) (l : length apart ≡ length d) (r : Shown) (i : Shows (length d) n k k d counters apart r apart′) where
     abbrev rows : ℕ → ℕ
     rows = rowCounter (width k) counters
 
@@ -219,7 +219,7 @@ module _ (n k : ℕ) (d mask values counters cells : List ℕ) (s : StoreSized n
               untouched = λ l. absurd (omega (arith, f .number));
               cellsAre = λ _.
                   g ∙ sym (as-long (length cells) (length apart′) apart′ cells (s .room ∙ sym as-many)) ∙ shown-is ∙ stored-inverted own rows columns right;
-              levelsAre = λ _. f .levels ∙ i .greatest z;
+              levelsAre = λ _. f .levels ∙ i .greatest z refl;
               faultsAre = λ _. f .faultsAre;
               kindsAre = λ _. f .kindsAre n (mask-inside n d mask values inside);
             })

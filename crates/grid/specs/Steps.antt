@@ -24,11 +24,11 @@ pub record StoreSized (n k : ℕ) (d mask values counters cells : List ℕ) : Ty
   pub planned : PlanSized n k d mask values counters
   pub room : length cells ≡ length d
 
--- what a read promises, and the greatest counter
-pub record Shows (m n k : ℕ) (cells counters out : List ℕ) (s : Shown) (after : List ℕ) : Type 0 where
+-- what a read promises, and the greatest counter where all K pairs of sets were looked at
+pub record Shows (m n k upto : ℕ) (cells counters out : List ℕ) (s : Shown) (after : List ℕ) : Type 0 where
   pub reads : Read m n k cells counters out (record { number = s .number; index = s .index }) after
   pub uncounted : (s .number ≡ 0 → ⊥) → s .levels ≡ 0
-  pub greatest : s .number ≡ 0 → s .levels ≡ most (m + n) (counter (width k) counters)
+  pub greatest : s .number ≡ 0 → upto ≡ k → s .levels ≡ most (m + n) (counter (width k) counters)
 
 -- some cell (i, j) is stuck at another bit than that of the words x
 unfoldable pub anyDiffers : List ℕ → List ℕ → List ℕ → Bool

@@ -126,7 +126,7 @@ fn store_by(
     requires { ⌜ (planPast (block (length (now «data»)) columns (now «data») (now mask) (now values)) ≡ false) × (length (now apart) ≡ length (now «data»)) ⌝ }
     ensures { λ r. ⌜ Store (block (length (now («data» .entry))) columns (now («data» .entry)) (now (mask .entry)) (now (values .entry))) k (now (counters .entry)) (now (cells .entry)) r (now (cells .exit)) ⌝ }
 {
-    let s = shows::show_sized(columns, k, data, counters, apart);
+    let s = shows::show_sized(columns, k, k, data, counters, apart);
     if s.number != ACCEPTED {
         return refused(s.number, s.index);
     }

@@ -9,7 +9,7 @@ ghost use Rattle.bits.specs.Bits.{num};
 ghost use Rattle.grid_sets.specs.Sets.{filled};
 ghost use Rattle.grid.specs.Steps.{ShowSized, Shows};
 
-// 0 or the number of the refusal, the index of a read's answer, and the greatest counter.
+// 0 or the number of the refusal, the index of a read's answer, and the greatest counter where it was asked for.
 pub struct Shown {
     pub number: usize,
     pub index: usize,
@@ -36,7 +36,7 @@ fn depth(rows: &[u64; LEVELS], columns: &[u64; LEVELS], used: usize) -> usize
     n
 }
 
-// A read, with the greatest counter.
+// A read.
 pub fn show(
     rows: usize,
     columns: usize,
@@ -45,7 +45,7 @@ pub fn show(
     counters: &[u8],
     out: &mut [u64],
 ) -> Shown
-    ensures { λ r. ⌜ Shows rows columns k (now (cells .entry)) (now (counters .entry)) (now (out .entry)) r (now (out .exit)) ⌝ }
+    ensures { λ r. ⌜ Shows rows columns k 0 (now (cells .entry)) (now (counters .entry)) (now (out .entry)) r (now (out .exit)) ⌝ }
 {
     let number = grid_checks::read_number(rows, columns, k, cells.len(), counters.len(), out.len());
     if number != ACCEPTED {
@@ -62,19 +62,21 @@ pub fn show(
             levels: 0,
         };
     }
-    show_sized(columns, k, cells, counters, out)
+    show_sized(columns, k, 0, cells, counters, out)
 }
 
-// That of numbers in range, buffers that are as long as they should be, and words within the columns.
+// That of numbers in range, buffers that are as long as they should be, and words within the columns. The greatest counter is looked for in the first `upto`
+// pairs of sets: a read needs none, and a store needs K.
 pub fn show_sized(
     columns: usize,
     k: usize,
+    upto: usize,
     cells: &[u64],
     counters: &[u8],
     out: &mut [u64],
 ) -> Shown
-    requires { ⌜ ShowSized columns k (now cells) (now counters) (now out) ⌝ }
-    ensures { λ r. ⌜ Shows (length (now (cells .entry))) columns k (now (cells .entry)) (now (counters .entry)) (now (out .entry)) r (now (out .exit)) ⌝ }
+    requires { ⌜ ShowSized columns k (now cells) (now counters) (now out) × (upto ≤ 8) ⌝ }
+    ensures { λ r. ⌜ Shows (length (now (cells .entry))) columns k upto (now (cells .entry)) (now (counters .entry)) (now (out .entry)) r (now (out .exit)) ⌝ }
 {
     let c = grid_counters::unpack(k, cells.len(), columns, counters);
     if c.number != ACCEPTED {
@@ -92,6 +94,6 @@ pub fn show_sized(
     Shown {
         number: ACCEPTED,
         index: 0,
-        levels: depth(&row_sets, &column_sets, k),
+        levels: depth(&row_sets, &column_sets, upto),
     }
 }

@@ -1,4 +1,4 @@
--- The number of a conversion is the lowest refusal that applies; and what holds of the counters where none does. Assumes nothing.
+-- The number of a conversion is the first refusal that applies; and what holds of the counters where none does. Assumes nothing.
 use Prim.Native.Nat.{ℕ, _+_, _^_, _<_, _≤_}
 use mathlib.Core.Path.{_≡_, refl, ap, subst, _∙_}
 use mathlib.Core.Bool.{true, not}

@@ -1,4 +1,4 @@
--- The tests of a number test what the refusals say, and the number is the lowest refusal that applies. Assumes nothing.
+-- The tests of a number test what the refusals say, and the number is the first refusal that applies. Assumes nothing.
 use Prim.Native.Nat.{ℕ, _+_, _*_, _/_, _^_, _≤_}
 use mathlib.Core.Path.{_≡_, refl, sym, ap, subst, _∙_}
 use mathlib.Core.Bool.{Bool, true, false, not, xor}

@@ -1,4 +1,4 @@
--- Every theorem of this crate, a field each: proofs/Claims.antt has the value, so one that loses its proof fails the check. Assumes nothing.
+-- Every theorem of this crate, a field each: proofs/Claims.antt has the value, so a theorem without a proof fails the check. Assumes nothing.
 use Rattle.grid_promises.specs.Theorems.{OneRead, OnePlan, OneStore, OneReadByDemands, OnePlanByDemands, OneStoreByDemands, ReadLowest, PlanLowest, StoreLowest, BoundFollows, PlanThenStore, OutputMeasured, OldCountersMeasured, OldCellsMeasured, PlanIgnoresSound, StoreIgnoresSound, LongestCounters, OldPlanKept, OldStoreKept, OldReadKept}
 use Rattle.grid_promises.specs.Conversion.{OneConvert, OneConvertByDemands, ConvertLowest, SmallerRefused, OutputKeepsLength, ConvertMeasured, ReadsKept, StoresKept, ConvertTwice, PlanThenConvert}
 

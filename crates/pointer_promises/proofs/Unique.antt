@@ -12,7 +12,7 @@ use Rattle.bits.proofs.BoundLaws.{sum-ext}
 use Rattle.bits.proofs.ByteLaws.{bytes-ext}
 use Rattle.pointer_promises.specs.Pointer.{held, names, unserved, renewed, after, activeAfter, stored, encode, readNumber, needed, writeJudged, writeNumber}
 use Rattle.pointer_promises.specs.Promises.{Write}
-use Rattle.pointer_promises.specs.Theorems.{ReadUnique, WritesAlike, WriteUnique, OutputMeasured, OldMeasured, SoundValues}
+use Rattle.pointer_promises.specs.Theorems.{ReadUnique, WritesAlike, WriteUnique, OutputMeasured, OldMeasured, SoundValues, WriteThenRead}
 use Rattle.pointer_promises.specs.declared.WriteAnswer.{WriteAnswer}
 use Rattle.pointer_promises.proofs.PositionLaws.{positions-ext}
 
@@ -66,6 +66,12 @@ pub old-measured : OldMeasured
 old-measured n wanted mask values m cells cells₂ a b c d k l e r s =
     let (x, y, z) = same n wanted mask values values cells cells₂ m (ap (λ g. writeNumber n wanted mask values g m) e) refl refl refl a b c d k l r s in
     (x, λ h. y (inl h), z)
+
+-- ---- a write, then a read
+
+pub write-then-read : WriteThenRead
+write-then-read n wanted mask values cells m cells′ m′ out out′ w r f z l g =
+    let (e, o) = read-unique n cells′ m′ out r (record { number = 0 }) out′ wanted g (f .reads z out l) in (ap (λ a. a .number) e, o)
 
 -- ---- a value bit at a sound cell
 

@@ -39,7 +39,16 @@ WriteExists =
     (n : ℕ) (wanted mask values cells metadata : List ℕ) → Below 256 wanted
     → (a : WriteAnswer) × (cells′ : List ℕ) × (metadata′ : List ℕ) × Write n wanted mask values cells metadata a cells′ metadata′
 
--- ---- the answer is the lowest number that applies
+-- ---- a write, then a read
+
+-- the cells and metadata of an accepted write, read into any output of the right length, give the data
+abbrev pub WriteThenRead : Type 0
+WriteThenRead =
+    (n : ℕ) (wanted mask values cells metadata cells′ metadata′ out out′ : List ℕ) (w : WriteAnswer) (r : ReadAnswer)
+    → Write n wanted mask values cells metadata w cells′ metadata′ → w .number ≡ 0 → length out ≡ 64 → Read n cells′ metadata′ out r out′
+    → (r .number ≡ 0) × (out′ ≡ wanted)
+
+-- ---- the lowest number that applies is the answer, or 0 where none does
 
 abbrev pub ReadLowest : Type 0
 ReadLowest =

@@ -1,4 +1,4 @@
--- Every theorem of this crate, a field each: proofs/Claims.antt has the value, so one that loses its proof fails the check. Assumes nothing.
+-- Every theorem of this crate, a field each: proofs/Claims.antt has the value, so a theorem without a proof fails the check. Assumes nothing.
 use Rattle.rdis.specs.Theorems.{RefusedByChain, MoreAllowed, LevelsByChain, OneDepth, NoChainEmpty, LevelsCounted, OneCount, LevelsByKind, TwoKinds, LevelsByFaults, FaultsAreCells, WrongWhereFlipped, ReadBack, StoredReads, PlanReads, StuckHeld, PackedOnly, FewestBytes, CounterBits, PackedBits, SpareBits, CountersBack, CountersAtMost, LevelsReached, WidthHolds, OldWidthKept, ThreeBits, ReadBackPacked, SoundIgnored}
 
 pub record Claims : Type 0 where

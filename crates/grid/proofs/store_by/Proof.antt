@@ -1,3 +1,4 @@
+use native.Mathlib.Omega.{arith}
 use borrow.Author.Needs.{needs}
 use Rattle.grid_promises.specs.Refusals.{InRange}
 use Rattle.grid_promises.proofs.RefusalLaws.{in-range}
@@ -13,7 +14,8 @@ store-by-spec =
     (λ c κs.
     let s = c .before .before .before .before .before .before .before in
     let a = s .args in
-    shows-on (a .columns) (a .k) (a .«data» .now) (a .mask .now) (a .values .now) (a .counters .now) (a .cells .now) (s .pre .0) (s .pre .1 .0) _ (s .pre .1 .1))
+    let r : InRange _ _ _ = in-range _ _ _ .0 (s .pre .0 .planned .ranges) in
+    (shows-on (a .columns) (a .k) (a .«data» .now) (a .mask .now) (a .values .now) (a .counters .now) (a .cells .now) (s .pre .0) (s .pre .1 .0) _ (s .pre .1 .1), omega (arith, r .levels .1)))
     -- refused-requires
     (λ c κs. search needs)
     -- same-length

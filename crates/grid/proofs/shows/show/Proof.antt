@@ -1,4 +1,5 @@
 use mathlib.Core.Path.{refl, sym, _∙_}
+use native.Mathlib.Omega.{arith}
 use borrow.Author.Needs.{needs}
 use borrow.Author.Tests.{not-true, not-false}
 use Rattle.grid.proofs.ShowLaws.{show-judged, show-past, show-goes-on, show-comes-back}
@@ -19,7 +20,7 @@ show-spec =
     (λ c.
     let a = c .before .before .before .before .before .args in
     let n = c .before .read-number in
-    show-judged (a .rows) (a .columns) (a .k) (a .cells .now) (a .counters .now) (a .out .now) (n .result) (n .ensures) _ refl refl refl (c .if1 .taken))
+    show-judged (a .rows) (a .columns) (a .k) 0 (a .cells .now) (a .counters .now) (a .out .now) (n .result) (n .ensures) _ refl refl refl (c .if1 .taken))
     -- within-requires
     (λ c κs. search needs)
     -- returns-2
@@ -27,15 +28,17 @@ show-spec =
     let e = c .before .before in
     let a = begin e .args in
     let n = e .before .read-number in
-    show-past (a .rows) (a .columns) (a .k) (a .cells .now) (a .counters .now) (a .out .now) (n .result) (n .ensures) (e .if1 .left) _ refl refl refl
+    show-past (a .rows) (a .columns) (a .k) 0 (a .cells .now) (a .counters .now) (a .out .now) (n .result) (n .ensures) (e .if1 .left) _ refl refl refl
     (not-false _ (sym (c .before .within .ensures) ∙ not-true _ (c .if2 .taken))))
     -- show-sized-requires
     (λ c κs.
     let e = c .before .before .before in
     let a = begin e .args in
-    let n = e .before .read-number in
-    show-goes-on (a .rows) (a .columns) (a .k) (a .cells .now) (a .counters .now) (a .out .now) (n .result) (n .ensures) (e .if1 .left)
-    (not-true _ (sym (c .before .before .within .ensures) ∙ not-false _ (c .before .if2 .left))))
+    let n = e .before .read-number in (
+      show-goes-on (a .rows) (a .columns) (a .k) 0 (a .cells .now) (a .counters .now) (a .out .now) (n .result) (n .ensures) (e .if1 .left)
+          (not-true _ (sym (c .before .before .within .ensures) ∙ not-false _ (c .before .if2 .left))),
+      omega arith,
+    ))
     -- same-length
     (λ c. search needs)
     -- returns-3
@@ -43,4 +46,4 @@ show-spec =
     let e = c .before .before .before .before .before .before in
     let a = begin e .args in
     let n = e .before .read-number in
-    show-comes-back (a .rows) (a .columns) (a .k) (a .cells .now) (a .counters .now) (a .out .now) (n .result) (n .ensures) (e .if1 .left) _ _ (c .before .before .show-sized .ensures)))
+    show-comes-back (a .rows) (a .columns) (a .k) 0 (a .cells .now) (a .counters .now) (a .out .now) (n .result) (n .ensures) (e .if1 .left) _ _ (c .before .before .show-sized .ensures)))

@@ -1,8 +1,6 @@
 use mathlib.Core.Path.{refl}
 use native.Mathlib.Omega.{arith}
 use borrow.Author.Needs.{needs}
-use Rattle.grid_promises.specs.Refusals.{InRange}
-use Rattle.grid_promises.proofs.RefusalLaws.{in-range}
 use Rattle.grid.proofs.ShowLaws.{show-refused, show-done}
 use Rattle.grid.proofs.shows.show_sized.Statement.{statement}
 use Rattle.grid.proofs.shows.show_sized.Tie as tie
@@ -22,11 +20,11 @@ show-sized-spec =
     let s = c .before .before .before .before .before .before in
     let a = s .args in
     let u = c .before .before .unpack in
-    show-refused (a .columns) (a .k) (a .cells .now) (a .counters .now) (a .out .now) (s .pre) (u .result) (u .ensures) _ refl refl refl (c .if1 .taken))
+    show-refused (a .columns) (a .k) (a .upto) (a .cells .now) (a .counters .now) (a .out .now) (s .pre .0) (u .result) (u .ensures) _ refl refl refl (c .if1 .taken))
     -- invert-requires
     (λ c κs. search needs)
     -- depth-requires
-    (λ c κs. let r : InRange _ _ _ = in-range _ _ _ .0 (begin (c .before .before .before .before .before .before .before .before .before .before) .pre .ranges) in omega (arith, r .levels .1))
+    (λ c κs. omega (arith, begin (c .before .before .before .before .before .before .before .before .before .before) .pre .1))
     -- same-length
     (λ c. search needs)
     -- returns-2
@@ -35,5 +33,5 @@ show-sized-spec =
     let s = begin e in
     let a = s .args in
     let u = e .before .before .unpack in
-    show-done (a .columns) (a .k) (a .cells .now) (a .counters .now) (a .out .now) (s .pre) (u .result) (u .ensures) (e .if1 .left) _ _ refl refl (c .depth .ensures)
+    show-done (a .columns) (a .k) (a .upto) (a .cells .now) (a .counters .now) (a .out .now) (s .pre .0) (u .result) (u .ensures) (e .if1 .left) _ _ refl refl (c .depth .ensures)
     (c .before .before .before .before .before .invert .ensures)))
