@@ -1,15 +1,15 @@
 -- Laws of the elements of a buffer, and of loading them. Assumes nothing.
 use mathlib.Core.Path.{_≡_, refl, sym, ap, ap₂, subst, _∙_}
 use mathlib.Core.List.{List, _++_}
-use Prim.Native.Nat.{ℕ, _+_, _-_, _*_, _≤_, _<_}
+use Prim.Native.Nat.{ℕ, suc, _+_, _-_, _*_, _≤_, _<_}
 use native.Mathlib.Omega.{arith}
 use lib.ListN.{length, getD, take, drop, set, length-take, length-drop}
 use lib.Seq.{getD-take, getD-drop, drop-cons, length-take-le, take-at, take-length}
 use Rattle.bits.specs.Bits.{number, list}
 use Rattle.bits.proofs.BoundLaws.{length-list, list-getD, list-more}
 use Rattle.wire.specs.Numbers.{numberAt}
-use Rattle.calls.specs.Format.{many, Stands, elements}
-use Rattle.calls.specs.Calls.{Loaded}
+use Rattle.calls.specs.Format.{many, Stands, elements, place, Held, bufferOf}
+use Rattle.calls.proofs.FormatLaws.{held-stands}
 
 pub length-elements : (bs : List ℕ) (p w : ℕ) → length (elements bs p w) ≡ many bs p
 unfolding elements
@@ -29,20 +29,20 @@ bytes-elements bs p n h e =
     let same : p + 2 + i ≡ p + 2 + 1 * i = omega arith in
     getD-take m (drop (p + 2) bs) i 0 (omega arith) ∙ getD-drop (p + 2) bs i 0 ∙ ap (λ q. getD bs q 0) same ∙ byte-number bs (p + 2 + 1 * i) (omega (arith, h .whole)))
 
--- what copying them leaves
-pub loaded-bytes : {bs : List ℕ} {p : ℕ} (r : ℕ) (src out after : List ℕ) → Stands bs p 1 → 1024 ≤ length out → src ≡ elements bs p 1 → r ≡ length src
-    → after ≡ take (length src) src ++ drop (length src) out → length after ≡ length out → Loaded bs p 1 after r
-loaded-bytes {bs} {p} r src out after h l e k f j =
-    let m : r ≡ many bs p = k ∙ ap length e ∙ length-elements bs p 1 in
-    let n : r ≤ length after = omega (arith, h .few) in
-    record {
-      count = m;
-      fits = (n, sym (length-take-le r after n));
-      holds = ap₂ take k f ∙ take-at (take (length src) src) (drop (length src) out) (length src) (length-take-le (length src) src (omega arith)) ∙ take-length src ∙ e;
-    }
+-- so are those of a buffer of bytes, from its place on
+pub bytes-of : {bs : List ℕ} {tag i p n : ℕ} → Held bs tag i 1 → p ≡ place bs tag i → n ≡ many bs p → take (p + 2 + n - (p + 2)) (drop (p + 2) bs) ≡ bufferOf bs tag i
+unfolding bufferOf
+bytes-of {bs} {tag} {i} {p} {n} h e k = rw (h .wide) (bytes-elements bs p n (held-stands h e) k ∙ ap (λ x. elements bs x 1) e)
 
-pub loaded-at : {bs after : List ℕ} {p q w r : ℕ} → p ≡ q → Loaded bs p w after r → Loaded bs q w after r
-loaded-at {bs} {after} {w = w} {r} e h = subst (λ x. Loaded bs x w after r) e h
+-- a buffer of a call has at most 1,024 elements
+pub few-of : {bs xs : List ℕ} {tag i w : ℕ} → Held bs tag i (suc w) → xs ≡ bufferOf bs tag i → length xs ≤ 1024
+unfolding bufferOf
+few-of h e = rw (e, length-elements) (held-stands h refl .few)
+
+-- what copying a list to the front of a room leaves there
+pub copied : (n : ℕ) (xs room : List ℕ) {after : List ℕ} → n ≡ length xs → after ≡ take (length xs) xs ++ drop (length xs) room → take n after ≡ xs
+copied n xs room e f =
+    ap₂ take e f ∙ take-at (take (length xs) xs) (drop (length xs) room) (length xs) (length-take-le (length xs) xs (omega arith)) ∙ take-length xs
 
 -- the words before the i-th
 abbrev pub wordsTo : List ℕ → ℕ → ℕ → List ℕ
@@ -57,10 +57,8 @@ pub words-more : (bs : List ℕ) (p i x : ℕ) (out : List ℕ) → i < length o
     → take (i + 1) (set out i x) ≡ wordsTo bs p (i + 1)
 words-more bs p i x out l e h = list-more i (λ j. numberAt bs (p + 2 + 8 * j) 8) x out l h e
 
-pub loaded-words : (bs : List ℕ) (p i r : ℕ) (out : List ℕ) → r ≡ many bs p → i ≡ r → r ≤ length out → take i out ≡ wordsTo bs p i → Loaded bs p 8 out r
-unfolding elements
-loaded-words bs p i r out m e l h = record {
-  count = m;
-  fits = (l, sym (length-take-le r out l));
-  holds = subst (λ n. take r out ≡ wordsTo bs p n) m (subst (λ n. take n out ≡ wordsTo bs p n) e h);
-}
+pub words-of : {bs : List ℕ} {tag i : ℕ} (p n j : ℕ) (out : List ℕ) → Held bs tag i 8 → p ≡ place bs tag i → n ≡ many bs p → j ≡ n → take j out ≡ wordsTo bs p j
+    → take n out ≡ bufferOf bs tag i
+unfolding bufferOf elements
+words-of {bs} {tag} {i} p n j out h e k f w =
+    subst (λ m. take m out ≡ wordsTo bs p m) f w ∙ ap (wordsTo bs p) k ∙ ap (λ x. elements bs x 8) e ∙ ap (elements bs (place bs tag i)) (sym (h .wide))

@@ -2,17 +2,17 @@
 use mathlib.Core.Path.{_≡_, refl, sym, ap, ap₂, subst, transport, _∙_}
 use mathlib.Core.Bool.{Bool, true, false, not, cond, _&&_, _||_}
 use mathlib.Core.List.{List, [], _∷_}
-use Prim.Native.Nat.{ℕ, zero, suc, zero-le, suc-le-suc, _+_, _-_, _*_, _≤_, _<_}
+use Prim.Native.Nat.{ℕ, zero, suc, _+_, _-_, _*_, _≤_, _<_}
 use native.Mathlib.Nat.{le-trans, mul-le-mul-left}
 use native.Mathlib.Numerals.{add-one}
 use native.Mathlib.Omega.{arith}
 use native.Mathlib.Decide.{decLt}
 use lib.Dec.{eqb, leb, ltb}
 use lib.ListN.{length, getD, List·getD-eq-default}
-use borrow.Author.Tests.{eqb-false, not-true, leb-true, ltb-true, ne-eqb, le-leb, lt-leb, lt-ltb}
+use borrow.Author.Tests.{eqb-true, eqb-false, not-true, leb-true, ltb-true, ne-eqb, le-leb, lt-leb, lt-ltb}
 use Rattle.bits.specs.Bits.{some}
 use Rattle.bits.proofs.TestLaws.{clash, same-test, and-left, and-right, false-when}
-use Rattle.calls.specs.Format.{many, isBuffer, Stands, isOver, afterNumbers, afterBuffer, table, formOf, width, placeOf, place, formEnd, isBad, Found, noForm, Whole}
+use Rattle.calls.specs.Format.{many, isBuffer, Stands, isOver, afterNumbers, afterBuffer, table, formOf, width, placeOf, place, formEnd, isBad, Found, noForm, Whole, Tagged, Held}
 use Rattle.calls.specs.declared.input.Form.{Form}
 use Rattle.calls.specs.declared.input.Reach.{Reach}
 
@@ -105,31 +105,39 @@ numbers-stand bs n = numbers-cases bs n (λ x. (x ≡ 0 → ⊥) → 1 + 8 * n �
 
 -- ---- forms
 
--- a form has at most four numbers and five buffers, with elements of at most eight bytes
+-- a form has at most four numbers and five buffers, with elements of at most eight bytes, and no width past them
 pub record Small (f : Form) : Type 0 where
   pub numbers : f .numbers ≤ 4
   pub buffers : f .buffers ≤ 5
   pub widths : (i : ℕ) → getD (f .widths) i 0 ≤ 8
+  pub past : (i : ℕ) → f .buffers ≤ i → getD (f .widths) i 0 ≡ 0
 
-abbrev areNarrow : List ℕ → Bool
-areNarrow [] = true
-areNarrow (w ∷ ws) = leb w 8 && areNarrow ws
+abbrev areNarrow : ℕ → List ℕ → Bool
+areNarrow n [] = true
+areNarrow zero (w ∷ ws) = eqb w 0 && areNarrow zero ws
+areNarrow (suc n) (w ∷ ws) = leb w 8 && areNarrow n ws
 
 abbrev areSmall : List Form → Bool
 areSmall [] = true
-areSmall (f ∷ fs) = leb (f .numbers) 4 && leb (f .buffers) 5 && areNarrow (f .widths) && areSmall fs
+areSmall (f ∷ fs) = leb (f .numbers) 4 && leb (f .buffers) 5 && areNarrow (f .buffers) (f .widths) && areSmall fs
 
-narrow-at : (ws : List ℕ) → areNarrow ws ≡ true → (i : ℕ) → getD ws i 0 ≤ 8
-narrow-at [] h i = omega arith
-narrow-at (w ∷ ws) h zero = leb-true w 8 (and-left (leb w 8) (areNarrow ws) h)
-narrow-at (w ∷ ws) h (suc i) = narrow-at ws (and-right (leb w 8) (areNarrow ws) h) i
+narrow-at : (n : ℕ) (ws : List ℕ) → areNarrow n ws ≡ true → (i : ℕ) → (getD ws i 0 ≤ 8) × (n ≤ i → getD ws i 0 ≡ 0)
+narrow-at n [] h i = (omega arith, λ _. refl)
+narrow-at zero (w ∷ ws) h zero = let e = eqb-true w 0 (and-left (eqb w 0) (areNarrow zero ws) h) in (omega arith, λ _. e)
+narrow-at zero (w ∷ ws) h (suc i) = let (a, b) = narrow-at zero ws (and-right (eqb w 0) (areNarrow zero ws) h) i in (a, λ _. b (omega arith))
+narrow-at (suc n) (w ∷ ws) h zero = (leb-true w 8 (and-left (leb w 8) (areNarrow n ws) h), λ l. absurd (omega arith))
+narrow-at (suc n) (w ∷ ws) h (suc i) = let (a, b) = narrow-at n ws (and-right (leb w 8) (areNarrow n ws) h) i in (a, λ l. b (omega arith))
 
 small-at : (fs : List Form) → areSmall fs ≡ true → (tag : ℕ) → Small (getD fs tag noForm)
-small-at [] h tag = record { numbers = omega arith; buffers = omega arith; widths = narrow-at (0 ∷ 0 ∷ 0 ∷ 0 ∷ 0 ∷ []) refl }
+small-at [] h tag =
+    let n = narrow-at 0 (noForm .widths) refl in
+    record { numbers = omega arith; buffers = omega arith; widths = λ i. n i .0; past = λ i. n i .1 }
 small-at (f ∷ fs) h zero =
-    let (a, b, c) = all-three (leb (f .numbers) 4) (leb (f .buffers) 5) (areNarrow (f .widths)) (and-left (leb (f .numbers) 4 && leb (f .buffers) 5 && areNarrow (f .widths)) (areSmall fs) h) in
-    record { numbers = leb-true _ _ a; buffers = leb-true _ _ b; widths = narrow-at (f .widths) c }
-small-at (f ∷ fs) h (suc tag) = small-at fs (and-right (leb (f .numbers) 4 && leb (f .buffers) 5 && areNarrow (f .widths)) (areSmall fs) h) tag
+    let s : Bool = leb (f .numbers) 4 && leb (f .buffers) 5 && areNarrow (f .buffers) (f .widths) in
+    let (a, b, c) = all-three (leb (f .numbers) 4) (leb (f .buffers) 5) (areNarrow (f .buffers) (f .widths)) (and-left s (areSmall fs) h) in
+    let n = narrow-at (f .buffers) (f .widths) c in
+    record { numbers = leb-true _ _ a; buffers = leb-true _ _ b; widths = λ i. n i .0; past = λ i. n i .1 }
+small-at (f ∷ fs) h (suc tag) = small-at fs (and-right (leb (f .numbers) 4 && leb (f .buffers) 5 && areNarrow (f .buffers) (f .widths)) (areSmall fs) h) tag
 
 pub small-form : (tag : ℕ) → Small (formOf tag)
 unfolding formOf table
@@ -138,17 +146,19 @@ small-form tag = small-at table refl tag
 pub small-by : {f : Form} (tag : ℕ) → f ≡ formOf tag → Small f
 small-by tag e = subst Small (sym e) (small-form tag)
 
--- a number that is no smaller and another one is greater
-above : (n tag : ℕ) → n ≤ tag → (tag ≡ n → ⊥) → suc n ≤ tag
-above n tag l h = omega arith
+-- a tag that is none of 1 to n
+abbrev NoneTo : ℕ → ℕ → Type 0
+NoneTo zero tag = Unit {0}
+NoneTo (suc n) tag = NoneTo n tag × (tag ≡ suc n → ⊥)
 
-pub no-form : (tag : ℕ) → (tag ≡ 1 → ⊥) → (tag ≡ 2 → ⊥) → (tag ≡ 3 → ⊥) → (tag ≡ 4 → ⊥) → (tag ≡ 5 → ⊥) → (tag ≡ 6 → ⊥) → (tag ≡ 7 → ⊥) → noForm ≡ formOf tag
+past : (n tag : ℕ) → NoneTo n tag → 0 < tag → n < tag
+past zero tag h l = l
+past (suc n) tag (h, k) l = let p = past n tag h l in omega arith
+
+pub no-form : (tag : ℕ) → NoneTo 7 tag → noForm ≡ formOf tag
 unfolding formOf table
-no-form zero a b c d e f g = refl
-no-form (suc tag) a b c d e f g =
-    let t : ℕ = suc tag in
-    let past = above 7 t (above 6 t (above 5 t (above 4 t (above 3 t (above 2 t (above 1 t (suc-le-suc zero-le) a) b) c) d) e) f) g in
-    sym (List·getD-eq-default table noForm {n = suc tag} past)
+no-form zero h = refl
+no-form (suc tag) h = sym (List·getD-eq-default table noForm {n = suc tag} (past 7 (suc tag) h (omega arith)))
 
 -- the end of a call, whichever way it is judged
 pub form-cases : (bs : List ℕ) (f : Form) (P : ℕ → Type 0) → P (placeOf bs f (f .buffers)) → P 0 → P (formEnd bs f)
@@ -217,3 +227,18 @@ stands-at bs tag i h l = buffers-stand bs (formOf tag) (formOf tag .buffers) i l
 
 pub number-stands : (bs : List ℕ) (tag i : ℕ) → Whole bs tag → i < formOf tag .numbers → 1 + 8 * i + 8 ≤ length bs
 number-stands bs tag i h l = omega (arith, first-numbers bs (formOf tag) (formOf tag .buffers) (whole-place bs (formOf tag) h))
+
+-- a buffer with elements of so many bytes is one of the call's, and stands there
+pub held-index : {bs : List ℕ} {tag i w : ℕ} → Held bs tag i (suc w) → i < formOf tag .buffers
+held-index {bs} {tag} {i} h = elim (decLt i (formOf tag .buffers)) [ yes l ↦ l | no l ↦ absurd (omega (arith, h .wide, small-form tag .past i (omega arith))) ]
+
+pub held-small : {bs : List ℕ} {tag i w : ℕ} → Held bs tag i (suc w) → i ≤ 5
+held-small {bs} {tag} h = omega (arith, held-index h, small-form tag .buffers)
+
+pub held-stands : {bs : List ℕ} {tag i w p : ℕ} → Held bs tag i (suc w) → p ≡ place bs tag i → Stands bs p (suc w)
+held-stands {bs} {tag} {i} {w} h e =
+    subst (λ x. Stands bs x (suc w)) (sym e) (subst (Stands bs (place bs tag i)) (h .wide) (stands-at bs tag i (h .whole) (held-index h)))
+
+-- buffer i of a call whose tag is t
+pub held : {bs : List ℕ} {tag t : ℕ} (i : ℕ) → Tagged bs tag t → Held bs tag i (width t i)
+held i h = record { wide = ap (λ t. width t i) (h .is); whole = h .whole }

@@ -13,16 +13,14 @@ use Rattle.pointer_promises.proofs.Unique as pointer
 use Rattle.grid_promises.proofs.OneAnswer as grid
 use Rattle.grid_promises.proofs.OneConversion.{one-convert}
 use Rattle.wire.specs.Numbers.{numberAt}
-use Rattle.wire.specs.Text.{decimal}
 use Rattle.wire.proofs.NumberLaws.{number-before}
-use Rattle.wire.proofs.TextLaws.{length-decimals}
-use Rattle.calls.specs.Format.{callNumber, many, Stands, elements, formOf, width, place, numbersOf, buffersOf, callEnd, Whole}
-use Rattle.calls.specs.Text.{bufferText, line}
-use Rattle.calls.specs.Calls.{counts, LineBy, LineAt, LineOf, pointerWrite, pointerRead, gridPlan, gridRead, gridStore, gridConvert, transfer, OneLine}
+use Rattle.calls.specs.Format.{callNumber, many, Stands, elements, formOf, width, place, bufferOf, numbersOf, buffersOf, callEnd, Whole}
+use Rattle.calls.specs.Text.{each, bytesText, wordsText, behind, line}
+use Rattle.calls.specs.Calls.{counts, LineBy, LineAt, LineOf, ended, pointerWrite, pointerRead, gridPlan, gridRead, gridStore, gridConvert, transfer}
 use Rattle.calls.proofs.FormatLaws.{stands-at, number-stands}
 use Rattle.calls.proofs.StreamLaws.{place-more, tag-more}
 use Rattle.calls.proofs.ElementLaws.{length-elements}
-use Rattle.calls.proofs.TextLaws.{length-buffer}
+use Rattle.calls.proofs.TextLaws.{length-buffer, length-line}
 use Rattle.calls.proofs.ScriptLaws.{one-script, scripted-lengths}
 
 -- ---- bytes that follow
@@ -43,76 +41,72 @@ module _ (bs rest : List ℕ) where
     numbers-of-more = list-ext (formOf tag .numbers) (callNumber bs) (callNumber (bs ++ rest)) (λ i l. sym (number-before bs rest (1 + 8 * i) 8 (number-stands bs tag i h l)))
 
     buffers-of-more : buffersOf bs tag ≡ buffersOf (bs ++ rest) tag
+    unfolding bufferOf
     buffers-of-more =
-        list-ext (formOf tag .buffers) (λ i. elements bs (place bs tag i) (width tag i)) (λ i. elements (bs ++ rest) (place (bs ++ rest) tag i) (width tag i))
+        list-ext (formOf tag .buffers) (bufferOf bs tag) (bufferOf (bs ++ rest) tag)
         (λ i l.
         let s = stands-at bs tag i h l in
         elements-more (place bs tag i) (width tag i) s ∙ ap (λ p. elements (bs ++ rest) p (width tag i)) (sym (place-more bs rest (formOf tag) i (s .place))))
 
   pub line-more : (text : List ℕ) → 0 < length bs → (callEnd bs ≡ 0 → ⊥) → LineOf bs text → LineOf (bs ++ rest) text
-  line-more text k h l =
+  line-more _ k h (ended {text = text} l) =
       let tag : ℕ = getD bs 0 0 in
-      subst (λ t. LineAt (bs ++ rest) t text) (sym (tag-more bs rest k)) (transport (λ i. LineBy tag (numbers-of-more tag h i) (buffers-of-more tag h i) text) l)
+      ended (subst (λ t. LineAt (bs ++ rest) t text) (sym (tag-more bs rest k)) (transport (λ i. LineBy tag (numbers-of-more tag h i) (buffers-of-more tag h i) text) l))
 
 -- ---- how long a line is
 
--- at most so many numbers and so many buffers of at most 1,025 elements
-data Sized : ℕ → ℕ → List (List ℕ) → Type 0 where
-  none : Sized 0 0 []
-  count : {m n : ℕ} {ws : List (List ℕ)} (x : ℕ) → Sized m n ws → Sized (suc m) n (decimal x ∷ ws)
-  bytes : {m n : ℕ} {ws : List (List ℕ)} (s : List ℕ) → length s ≤ 1025 → Sized m n ws → Sized m (suc n) (bufferText 2 s ∷ ws)
-  words : {m n : ℕ} {ws : List (List ℕ)} (s : List ℕ) → length s ≤ 1025 → Sized m n ws → Sized m (suc n) (bufferText 16 s ∷ ws)
+-- so many buffers of at most 1,025 elements
+data Sized : ℕ → List (List ℕ) → Type 0 where
+  none : Sized 0 []
+  bytes : {n : ℕ} {ws : List (List ℕ)} (s : List ℕ) → length s ≤ 1025 → Sized n ws → Sized (suc n) (bytesText s ∷ ws)
+  words : {n : ℕ} {ws : List (List ℕ)} (s : List ℕ) → length s ≤ 1025 → Sized n ws → Sized (suc n) (wordsText s ∷ ws)
 
-sized : {m n : ℕ} {ws : List (List ℕ)} (k : ℕ) (w : List ℕ) → length w ≤ k → Sized m n ws → length (line w ws) ≤ k + 1 + 21 * m + 16401 * n
-unfolding line
-sized k w l none = rw length-append (omega arith)
-sized k w l (count x r) = rw length-append (omega (arith, sized 20 (decimal x) (length-decimals 20 x) r))
-sized k w l (bytes s f r) = rw length-append (omega (arith, sized 2050 (bufferText 2 s) (length-buffer 2 1025 s (omega arith) f) r))
-sized k w l (words s f r) = rw length-append (omega (arith, sized 16400 (bufferText 16 s) (length-buffer 16 1025 s (omega arith) f) r))
+sized : {n : ℕ} {ws : List (List ℕ)} → Sized n ws → length (each behind ws) ≤ 16401 * n
+unfolding each
+sized none = omega arith
+sized (bytes s f r) = rw length-append (omega (arith, length-buffer 2 1025 s (omega arith) f, sized r))
+sized (words s f r) = rw length-append (omega (arith, length-buffer 16 1025 s (omega arith) f, sized r))
 
-short : {m n : ℕ} {ws : List (List ℕ)} (x : ℕ) → Sized m n ws → m ≤ 5 → n ≤ 2 → length (line (decimal x) ws) ≤ 32928
-short x r h k = omega (arith, sized 20 (decimal x) (length-decimals 20 x) r)
+short : {n : ℕ} {ws : List (List ℕ)} (x : ℕ) (fs : List ℕ) → length fs ≤ 5 → Sized n ws → n ≤ 2 → length (line x fs ws) < 32928
+short {ws = ws} x fs h r k = omega (arith, length-line x fs ws, sized r)
 
-few-short : {ns : List ℕ} {bss : List (List ℕ)} {text : List ℕ} (tag : ℕ) → ((i : ℕ) → length (getD bss i []) ≤ 1024) → LineBy tag ns bss text → length text ≤ 32928
-few-short tag f (pointerWrite _ c m) = short _ (count _ (count _ (bytes _ (omega (arith, f 3)) (bytes _ (omega (arith, f 4)) none)))) (lit≤ tt) (lit≤ tt)
-few-short tag f (pointerRead _ o) = short _ (bytes _ (omega (arith, f 2)) none) (lit≤ tt) (lit≤ tt)
-few-short tag f (gridPlan _ c) = short _ (count _ (count _ (count _ (count _ (bytes _ (omega (arith, f 3)) none))))) (lit≤ tt) (lit≤ tt)
-few-short tag f (gridRead _ o) = short _ (count _ (words _ (omega (arith, f 2)) none)) (lit≤ tt) (lit≤ tt)
-few-short tag f (gridStore _ c) = short _ (count _ (count _ (count _ (count _ (count _ (words _ (omega (arith, f 4)) none)))))) (lit≤ tt) (lit≤ tt)
-few-short tag f (gridConvert _ o) = short _ (count _ (bytes _ (omega (arith, f 1)) none)) (lit≤ tt) (lit≤ tt)
-few-short tag f (transfer s) = let (o, n) = scripted-lengths s in short _ (count _ (words _ (omega (arith, f 2)) (bytes _ (omega (arith, f 1)) none))) (lit≤ tt) (lit≤ tt)
+few-short : {ns : List ℕ} {bss : List (List ℕ)} {text : List ℕ} (tag : ℕ) → ((i : ℕ) → length (getD bss i []) ≤ 1024) → LineBy tag ns bss text → length text < 32928
+few-short tag f (pointerWrite _ c m) = short _ _ (lit≤ tt) (bytes _ (omega (arith, f 3)) (bytes _ (omega (arith, f 4)) none)) (lit≤ tt)
+few-short tag f (pointerRead _ o) = short _ _ (lit≤ tt) (bytes _ (omega (arith, f 2)) none) (lit≤ tt)
+few-short tag f (gridPlan _ c) = short _ _ (lit≤ tt) (bytes _ (omega (arith, f 3)) none) (lit≤ tt)
+few-short tag f (gridRead _ o) = short _ _ (lit≤ tt) (words _ (omega (arith, f 2)) none) (lit≤ tt)
+few-short tag f (gridStore _ c) = short _ _ (lit≤ tt) (words _ (omega (arith, f 4)) none) (lit≤ tt)
+few-short tag f (gridConvert _ o) = short _ _ (lit≤ tt) (bytes _ (omega (arith, f 1)) none) (lit≤ tt)
+few-short tag f (transfer s) = let (o, n) = scripted-lengths s in short _ _ (lit≤ tt) (words _ (omega (arith, f 2)) (bytes _ (omega (arith, f 1)) none)) (lit≤ tt)
 
 few : (bs : List ℕ) (tag : ℕ) → Whole bs tag → (i : ℕ) → length (getD (buffersOf bs tag) i []) ≤ 1024
+unfolding bufferOf
 few bs tag h i =
-    let element : ℕ → List ℕ = λ j. elements bs (place bs tag j) (width tag j) in
     elim (decLt i (formOf tag .buffers)) [
-      | yes l ↦ rw (getD-list (formOf tag .buffers) element [] i l, length-elements) (stands-at bs tag i h l .few)
+      | yes l ↦ rw (getD-list (formOf tag .buffers) (bufferOf bs tag) [] i l, length-elements) (stands-at bs tag i h l .few)
       | no l ↦ rw (List·getD-eq-default (buffersOf bs tag) [] {n = i} (rw length-list (omega arith))) (omega arith)
     ]
 
 pub line-short : (bs text : List ℕ) → (callEnd bs ≡ 0 → ⊥) → LineOf bs text → length text ≤ 32928
-line-short bs text h l = few-short (getD bs 0 0) (few bs (getD bs 0 0) h) l
+line-short bs _ h (ended l) = rw length-append (omega (arith, few-short (getD bs 0 0) (few bs (getD bs 0 0) h) l))
 
 -- ---- no second line
 
 one-by-tag : {ns : List ℕ} {bss : List (List ℕ)} {text text′ : List ℕ} (tag : ℕ) → LineBy tag ns bss text → LineBy tag ns bss text′ → text ≡ text′
 one-by-tag tag (pointerWrite l _ _) (pointerWrite m _ _) =
-    let (a, c, d) = pointer.write-unique _ _ _ _ _ _ _ _ _ _ _ _ l m in
-    λ i. line (decimal (a i .number)) (decimal (a i .active) ∷ decimal (a i .new) ∷ bufferText 2 (c i) ∷ bufferText 2 (d i) ∷ [])
+    let (a, c, d) = pointer.write-unique _ _ _ _ _ _ _ _ _ _ _ _ l m in λ i. line (a i .number) (a i .active ∷ a i .new ∷ []) (bytesText (c i) ∷ bytesText (d i) ∷ [])
 one-by-tag tag (pointerRead l _) (pointerRead m _) =
-    let (a, o) = pointer.read-unique _ _ _ _ _ _ _ _ l m in λ i. line (decimal (a i .number)) (bufferText 2 (o i) ∷ [])
+    let (a, o) = pointer.read-unique _ _ _ _ _ _ _ _ l m in λ i. line (a i .number) [] (bytesText (o i) ∷ [])
 one-by-tag tag (gridPlan l _) (gridPlan m _) =
-    let (a, c) = grid.one-plan _ _ _ _ _ _ _ (l .exactly) (m .exactly) in
-    λ i. line (decimal (a i .number)) (counts (a i) ++ (bufferText 2 (c i) ∷ []))
+    let (a, c) = grid.one-plan _ _ _ _ _ _ _ (l .exactly) (m .exactly) in λ i. line (a i .number) (counts (a i)) (bytesText (c i) ∷ [])
 one-by-tag tag (gridRead l _) (gridRead m _) =
-    let (a, o) = grid.one-read _ _ _ _ _ _ _ _ _ _ (l .exactly) (m .exactly) in λ i. line (decimal (a i .number)) (decimal (a i .index) ∷ bufferText 16 (o i) ∷ [])
+    let (a, o) = grid.one-read _ _ _ _ _ _ _ _ _ _ (l .exactly) (m .exactly) in λ i. line (a i .number) (a i .index ∷ []) (wordsText (o i) ∷ [])
 one-by-tag tag (gridStore l _) (gridStore m _) =
-    let (a, c) = grid.one-store _ _ _ _ _ _ _ _ (l .exactly) (m .exactly) in
-    λ i. line (decimal (a i .number)) (counts (a i) ++ (decimal (a i .index) ∷ bufferText 16 (c i) ∷ []))
+    let (a, c) = grid.one-store _ _ _ _ _ _ _ _ (l .exactly) (m .exactly) in λ i. line (a i .number) (counts (a i) ++ (a i .index ∷ [])) (wordsText (c i) ∷ [])
 one-by-tag tag (gridConvert l _) (gridConvert m _) =
-    let (a, o) = one-convert _ _ _ _ _ _ _ _ _ _ (l .exactly) (m .exactly) in λ i. line (decimal (a i .number)) (decimal (a i .index) ∷ bufferText 2 (o i) ∷ [])
+    let (a, o) = one-convert _ _ _ _ _ _ _ _ _ _ (l .exactly) (m .exactly) in λ i. line (a i .number) (a i .index ∷ []) (bytesText (o i) ∷ [])
 one-by-tag tag (transfer s) (transfer s′) =
-    let (a, o, n) = one-script s s′ in λ i. line (decimal (a i .number)) (decimal (a i .index) ∷ bufferText 16 (o i) ∷ bufferText 2 (n i) ∷ [])
+    let (a, o, n) = one-script s s′ in λ i. line (a i .number) (a i .index ∷ []) (wordsText (o i) ∷ bytesText (n i) ∷ [])
 
-pub one-line : OneLine
-one-line bs text text′ l m = one-by-tag (getD bs 0 0) l m
+pub one-line : (bs text text′ : List ℕ) → LineOf bs text → LineOf bs text′ → text ≡ text′
+one-line bs _ _ (ended l) (ended m) = ap (λ t. t ++ (10 ∷ [])) (one-by-tag (getD bs 0 0) l m)

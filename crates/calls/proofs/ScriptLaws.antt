@@ -6,7 +6,7 @@ use Prim.Native.Nat.{ℕ, suc, _+_, _-_, _≤_, _<_, min}
 use native.Mathlib.Numerals.{add-one}
 use native.Mathlib.Omega.{arith}
 use lib.Dec.{lit<}
-use lib.ListN.{length, getD, take, drop, set, length-take, length-drop, length-append}
+use lib.ListN.{length, getD, take, drop, set, length-take, length-drop, length-append, length-set}
 use lib.Seq.{take-suc-set, take-all}
 use Rattle.bits.proofs.FirstLaws.{first-under}
 use Rattle.grid_promises.specs.declared.ReadAnswer.{ReadAnswer}
@@ -25,8 +25,8 @@ start-small m n k s h = first-under 256 _ _ (lit< tt, lit< tt) (h .demands .firs
 
 pub step-small : {m n k b used used′ x : ℕ} {bytes out after : List ℕ} {t u : Transfer} → Stepped m n k bytes b t used out x u used′ after → x < 256
 step-small (lump _ l) = first-under 256 _ _ (lit< tt, (lit< tt, lit< tt)) (l .demands .first)
-step-small (start h) = start-small _ _ _ _ h
-step-small (finish f _) = first-under 256 _ _ (lit< tt, (lit< tt, (lit< tt, (lit< tt, (lit< tt, (lit< tt, lit< tt)))))) (f .demands .first)
+step-small (start _ h) = start-small _ _ _ _ h
+step-small (finish _ f _) = first-under 256 _ _ (lit< tt, (lit< tt, (lit< tt, (lit< tt, (lit< tt, (lit< tt, lit< tt)))))) (f .demands .first)
 
 -- ---- a step of the code
 
@@ -39,69 +39,83 @@ lump-part bytes used b c l e =
 next-length : (bytes : List ℕ) (used b : ℕ) → length (next bytes used b) ≡ min b (length bytes - used)
 next-length bytes used b = length-take b (drop used bytes) ∙ ap (min b) (length-drop used bytes)
 
-pub lump-step : (m n k used b c : ℕ) (bytes out : List ℕ) (t : Transfer) (s : Step) → b < 256 → b ≢ 254 → b ≢ 255 → used ≤ length bytes
-    → c ≡ min b (length bytes - used) → Lump t (take (used + c - used) (drop used bytes)) s → Stepped m n k bytes b t used out (s .number) (s .transfer) (used + c) out
-lump-step m n k used b c bytes out t s p q r l e h =
-    let whole : Stepped m n k bytes b t used out (s .number) (s .transfer) (used + length (next bytes used b)) out = lump {b = b} (omega arith) (subst (λ x. Lump t x s) (lump-part bytes used b c l e) h) in
-    subst (λ x. Stepped m n k bytes b t used out (s .number) (s .transfer) (used + x) out) (next-length bytes used b ∙ sym e) whole
+pub lump-step : {m n k used b : ℕ} {bytes out : List ℕ} {t : Transfer} {s : Step} (c : ℕ) → b < 256 → b ≢ 254 → b ≢ 255 → used ≤ length bytes → c ≡ min b (length bytes - used)
+    → Lump t (take (used + c - used) (drop used bytes)) s → Stepped m n k bytes b t used out (s .number) (s .transfer) (used + c) out
+lump-step {m} {n} {k} {used} {b} {bytes} {out} {t} {s} c p q r l e h =
+    subst (λ x. Stepped m n k bytes b t used out (s .number) (s .transfer) (used + x) out) (next-length bytes used b ∙ sym e)
+    (lump (omega arith) (subst (λ x. Lump t x s) (lump-part bytes used b c l e) h))
 
-pub start-step : (m n k used b : ℕ) (bytes out : List ℕ) (t : Transfer) (s : Step) → b ≡ 254 → Start m n k s → Stepped m n k bytes b t used out (s .number) (s .transfer) used out
-start-step m n k used b bytes out t s e h = subst (λ b. Stepped m n k bytes b t used out (s .number) (s .transfer) used out) (sym e) (start h)
-
-pub finish-step : (m n k used b : ℕ) (bytes out after : List ℕ) (t : Transfer) (a : ReadAnswer) → b ≡ 255 → Finishes t out a after → length after ≡ length out
-    → Stepped m n k bytes b t used out (a .number) t used after
-finish-step m n k used b bytes out after t a e h l = subst (λ b. Stepped m n k bytes b t used out (a .number) t used after) (sym e) (finish h l)
-
-pub step-length : {m n k b used used′ x : ℕ} {bytes out after : List ℕ} {t u : Transfer} → Stepped m n k bytes b t used out x u used′ after → length after ≡ length out
+step-length : {m n k b used used′ x : ℕ} {bytes out after : List ℕ} {t u : Transfer} → Stepped m n k bytes b t used out x u used′ after → length after ≡ length out
 step-length (lump _ _) = refl
-step-length (start _) = refl
-step-length (finish _ l) = l
+step-length (start _ _) = refl
+step-length (finish _ _ l) = l
 
 -- no more bytes are used than there are
-pub step-within : {m n k b used used′ x : ℕ} {bytes out after : List ℕ} {t u : Transfer} → Stepped m n k bytes b t used out x u used′ after → used ≤ length bytes → used′ ≤ length bytes
+step-within : {m n k b used used′ x : ℕ} {bytes out after : List ℕ} {t u : Transfer} → Stepped m n k bytes b t used out x u used′ after → used ≤ length bytes → used′ ≤ length bytes
 step-within {b = b} {used = used} {bytes = bytes} (lump _ l) h = omega (arith, next-length bytes used b)
-step-within (start _) h = h
-step-within (finish _ _) h = h
+step-within (start _ _) h = h
+step-within (finish _ _ _) h = h
 
 -- ---- a start, and steps one after the other
 
-pub after-start : (m n k : ℕ) (bytes script out steps : List ℕ) (s : Step) → 0 < length steps → Start m n k s
-    → After m n k bytes script out 0 (s .transfer) 0 out (take (0 + 1) (set steps 0 (s .number)))
-after-start m n k bytes script out steps s l h =
-    subst (After m n k bytes script out 0 (s .transfer) 0 out) (sym (take-suc-set steps 0 (s .number) l)) (started h)
+-- a loop that goes through the script has made the first i steps; their numbers are at the front of `steps`
+pub record Running (m n k : ℕ) (bytes script before out steps : List ℕ) (t : Transfer) (used i : ℕ) : Type 0 where
+  pub within : i ≤ length script
+  pub left : used ≤ length bytes
+  pub long : length out ≡ length before
+  pub room : length steps ≡ length script + 1
+  pub after : After m n k bytes script before i t used out (take (i + 1) steps)
 
-pub after-step : (m n k i used used′ x : ℕ) (bytes script out now after steps : List ℕ) (t u : Transfer) → i + 1 < length steps → i < length script
-    → After m n k bytes script out i t used now (take (i + 1) steps) → Stepped m n k bytes (getD script i 0) t used now x u used′ after
-    → After m n k bytes script out (i + 1) u used′ after (take (i + 1 + 1) (set steps (i + 1) x))
-after-step m n k i used used′ x bytes script out now after steps t u p q h d =
-    let e : take (i + 1) steps ++ (x ∷ []) ≡ take (i + 1 + 1) (set steps (i + 1) x) = sym (ap (λ j. take j (set steps (i + 1) x)) (add-one (i + 1)) ∙ take-suc-set steps (i + 1) x p) in
-    subst (λ j. After m n k bytes script out j u used′ after (take (i + 1 + 1) (set steps (i + 1) x))) (sym (add-one i))
-    (subst (After m n k bytes script out (suc i) u used′ after) e (stepped h q d))
+module _ {m n k : ℕ} {bytes script before : List ℕ} where
+  pub run-start : {s : Step} (steps : List ℕ) → length steps ≡ length script + 1 → Start m n k s
+      → Running m n k bytes script before before (set steps 0 (s .number)) (s .transfer) 0 0
+  run-start {s} steps l h = record {
+    within = omega arith;
+    left = omega arith;
+    long = refl;
+    room = length-set steps 0 (s .number) ∙ l;
+    after = subst (After m n k bytes script before 0 (s .transfer) 0 before) (sym (take-suc-set steps 0 (s .number) (omega arith))) (started h);
+  }
 
-pub whole-script : {m n k : ℕ} {bytes script out : List ℕ} (i used : ℕ) (after now steps : List ℕ) (t : Transfer) (a : ReadAnswer) → i ≡ length script → length steps ≡ length script + 1
-    → After m n k bytes script out i t used now (take (i + 1) steps) → Finishes t now a after → length after ≡ length now
-    → Scripted m n k bytes script out a after steps
-whole-script {m} {n} {k} {bytes} {script} {out} i used after now steps t a e w h f l = record {
-  last = t;
-  used = used;
-  before = now;
-  steps = subst (After m n k bytes script out (length script) t used now) (take-all (length script + 1) steps (omega arith))
-      (subst (λ j. After m n k bytes script out j t used now (take (j + 1) steps)) e h);
-  ends = f;
-  long = l;
-}
+  pub run-more : {i used used′ x : ℕ} {out after steps : List ℕ} {t u : Transfer} → Running m n k bytes script before out steps t used i → i < length script
+      → Stepped m n k bytes (getD script i 0) t used out x u used′ after → Running m n k bytes script before after (set steps (i + 1) x) u used′ (i + 1)
+  run-more {i} {used′ = used′} {x} {after = after} {steps} {u = u} h l d =
+      let here : take (i + 1 + 1) (set steps (i + 1) x) ≡ take (i + 1) steps ++ (x ∷ []) = ap (λ j. take j (set steps (i + 1) x)) (add-one (i + 1)) ∙ take-suc-set steps (i + 1) x (omega (arith, h .room)) in
+      record {
+        within = omega arith;
+        left = step-within d (h .left);
+        long = step-length d ∙ h .long;
+        room = length-set steps (i + 1) x ∙ h .room;
+        after = rw here (subst (λ j. After m n k bytes script before j u used′ after (take (i + 1) steps ++ (x ∷ []))) (sym (add-one i)) (stepped (h .after) l d));
+      }
+
+  pub run-done : {i used : ℕ} {out after steps : List ℕ} {t : Transfer} {a : ReadAnswer} → Running m n k bytes script before out steps t used i → length script ≤ i
+      → Finishes t out a after → length after ≡ length out → Scripted m n k bytes script before a after steps
+  run-done {i} {used} {out} {steps = steps} {t} h l f e =
+      let all : i ≡ length script = omega (arith, h .within) in
+      record {
+        last = t;
+        used = used;
+        before = out;
+        steps = subst (After m n k bytes script before (length script) t used out) (take-all (length script + 1) steps (omega (arith, h .room)))
+            (subst (λ j. After m n k bytes script before j t used out (take (j + 1) steps)) all (h .after));
+        ends = f;
+        long = e;
+      }
 
 -- ---- no second end
 
 one-step : {m n k b used p p′ x x′ : ℕ} {bytes out after after′ : List ℕ} {t u u′ : Transfer} → Stepped m n k bytes b t used out x u p after
     → Stepped m n k bytes b t used out x′ u′ p′ after′ → (x ≡ x′) × (u ≡ u′) × (p ≡ p′) × (after ≡ after′)
 one-step (lump _ h) (lump _ g) = let e = one-lump _ _ _ _ h g in (ap (λ s. s .number) e, ap (λ s. s .transfer) e, refl, refl)
-one-step (lump l _) (start _) = absurd (omega arith)
-one-step (lump l _) (finish _ _) = absurd (omega arith)
-one-step (start h) (start g) = let e = one-start _ _ _ _ _ h g in (ap (λ s. s .number) e, ap (λ s. s .transfer) e, refl, refl)
-one-step (start _) (lump l _) = absurd (omega arith)
-one-step (finish h _) (finish g _) = let (e, f) = one-finish _ _ _ _ _ _ _ _ _ _ (h .exactly) (g .exactly) in (ap (λ a. a .number) e, refl, refl, f)
-one-step (finish _ _) (lump l _) = absurd (omega arith)
+one-step (start _ h) (start _ g) = let e = one-start _ _ _ _ _ h g in (ap (λ s. s .number) e, ap (λ s. s .transfer) e, refl, refl)
+one-step (finish _ h _) (finish _ g _) = let (e, f) = one-finish _ _ _ _ _ _ _ _ _ _ (h .exactly) (g .exactly) in (ap (λ a. a .number) e, refl, refl, f)
+one-step (lump l _) (start e _) = absurd (omega arith)
+one-step (lump l _) (finish e _ _) = absurd (omega arith)
+one-step (start e _) (lump l _) = absurd (omega arith)
+one-step (start e _) (finish f _ _) = absurd (omega arith)
+one-step (finish e _ _) (lump l _) = absurd (omega arith)
+one-step (finish e _ _) (start f _) = absurd (omega arith)
 
 -- from equal records, with as many bytes used and equal outputs
 one-step-from : {m n k b used used′ p p′ x x′ : ℕ} {bytes out out′ after after′ : List ℕ} {t t′ u u′ : Transfer} → t ≡ t′ → used ≡ used′ → out ≡ out′

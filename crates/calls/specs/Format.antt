@@ -10,10 +10,15 @@ use Rattle.bits.specs.Bits.{some, list, Below}
 use Rattle.wire.specs.Numbers.{numberAt}
 use Rattle.calls.specs.declared.input.Form.{Form}
 use Rattle.calls.specs.declared.input.Reach.{Reach}
+use Rattle.calls.specs.declared.input.Sizes.{Sizes}
 
 -- number i of a call, from 0 on: they follow the tag, eight bytes each
 abbrev pub callNumber : List ℕ → ℕ → ℕ
 callNumber bs i = numberAt bs (1 + 8 * i) 8
+
+-- a grid's rows and columns and its K: the first three
+abbrev pub sizesOf : List ℕ → Sizes
+sizesOf bs = record { rows = callNumber bs 0; columns = callNumber bs 1; k = callNumber bs 2 }
 
 -- where a call's n numbers end, that follow the tag
 unfoldable pub afterNumbers : List ℕ → ℕ → ℕ
@@ -99,12 +104,25 @@ pub record Found (bs : List ℕ) (f : Form) (i : ℕ) (r : Reach) : Type 0 where
 abbrev pub Whole : List ℕ → ℕ → Type 0
 Whole bs tag = formEnd bs (formOf tag) ≡ 0 → ⊥
 
--- its numbers, and the elements of its buffers
+-- and the tag is t; or its buffer i has elements of w bytes
+pub record Tagged (bs : List ℕ) (tag t : ℕ) : Type 0 where
+  pub is : tag ≡ t
+  pub whole : Whole bs tag
+
+pub record Held (bs : List ℕ) (tag i w : ℕ) : Type 0 where
+  pub wide : width tag i ≡ w
+  pub whole : Whole bs tag
+
+-- the elements of its buffer i
+unfoldable pub bufferOf : List ℕ → ℕ → ℕ → List ℕ
+bufferOf bs tag i = elements bs (place bs tag i) (width tag i)
+
+-- all its numbers, and all its buffers
 abbrev pub numbersOf : List ℕ → ℕ → List ℕ
 numbersOf bs tag = list (formOf tag .numbers) (callNumber bs)
 
 abbrev pub buffersOf : List ℕ → ℕ → List (List ℕ)
-buffersOf bs tag = list (formOf tag .buffers) (λ i. elements bs (place bs tag i) (width tag i))
+buffersOf bs tag = list (formOf tag .buffers) (bufferOf bs tag)
 
 -- where the call ends that stands at the front of the bytes
 abbrev pub callEnd : List ℕ → ℕ

@@ -12,16 +12,16 @@ use Rattle.fragment_promises.specs.Promises.{Start, Lump, Finishes}
 abbrev pub next : List ℕ → ℕ → ℕ → List ℕ
 next bytes used b = take b (drop used bytes)
 
--- one step, from a record, with so many of the bytes used and an output, to a number, a record, how many bytes are then used, and the output
-pub data Stepped (m n k : ℕ) (bytes : List ℕ) : ℕ → Transfer → ℕ → List ℕ → ℕ → Transfer → ℕ → List ℕ → Type 0 where
-  -- 0 to 253: a lump of so many bytes
-  lump : {b used : ℕ} {t : Transfer} {out : List ℕ} {s : Step} → b ≤ 253 → Lump t (next bytes used b) s
+-- one step by the byte b, from a record, with so many of the bytes used and an output, to a number, a record, how many bytes are then used, and the output
+pub data Stepped (m n k : ℕ) (bytes : List ℕ) (b : ℕ) : Transfer → ℕ → List ℕ → ℕ → Transfer → ℕ → List ℕ → Type 0 where
+  -- a lump of so many bytes
+  lump : {used : ℕ} {t : Transfer} {out : List ℕ} {s : Step} → b ≤ 253 → Lump t (next bytes used b) s
       → Stepped m n k bytes b t used out (s .number) (s .transfer) (used + length (next bytes used b)) out
-  -- 254: a new start with the same numbers. No byte is given back
-  start : {used : ℕ} {t : Transfer} {out : List ℕ} {s : Step} → Start m n k s → Stepped m n k bytes 254 t used out (s .number) (s .transfer) used out
-  -- 255: a finish
-  finish : {used : ℕ} {t : Transfer} {out after : List ℕ} {a : ReadAnswer} → Finishes t out a after → length after ≡ length out
-      → Stepped m n k bytes 255 t used out (a .number) t used after
+  -- a new start with the same numbers. No byte is given back
+  start : {used : ℕ} {t : Transfer} {out : List ℕ} {s : Step} → b ≡ 254 → Start m n k s → Stepped m n k bytes b t used out (s .number) (s .transfer) used out
+  -- a finish
+  finish : {used : ℕ} {t : Transfer} {out after : List ℕ} {a : ReadAnswer} → b ≡ 255 → Finishes t out a after → length after ≡ length out
+      → Stepped m n k bytes b t used out (a .number) t used after
 
 -- a start and the first steps of the script, so many of them: the record, how many bytes are used, the output, and all the numbers so far
 pub data After (m n k : ℕ) (bytes script out : List ℕ) : ℕ → Transfer → ℕ → List ℕ → List ℕ → Type 0 where

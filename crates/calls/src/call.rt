@@ -1,21 +1,20 @@
-// The calls: each takes its numbers and buffers, makes the call and puts its line.
+// The calls: each takes its numbers and buffers, makes the call and puts what its line shows.
 ghost use mathlib.Core.Path.{_≡_};
-ghost use Prim.Native.Nat.{_<_};
+ghost use Prim.Native.Nat.{_≤_, _<_};
 ghost use lib.ListN.{length};
-ghost use Rattle.calls.specs.Format.{Whole, isCutShort};
+ghost use Rattle.calls.specs.Format.{Whole, Tagged, isCutShort};
 ghost use Rattle.calls.specs.Calls.{LineAt, PutLine, Printed};
 use crate::input::MOST_ELEMENTS;
 use crate::input::call_end;
 use crate::input::call_number;
+use crate::input::call_sizes;
 use crate::input::elements;
 use crate::input::is_bad;
 use crate::input::load_bytes;
 use crate::input::load_words;
 use crate::print::put_answer;
 use crate::print::put_bytes;
-use crate::print::put_count;
 use crate::print::put_end;
-use crate::print::put_number;
 use crate::print::put_words;
 use crate::script;
 
@@ -28,180 +27,152 @@ pub struct Made {
     pub put: usize,
 }
 
-fn pointer_write(s: &[u8], out: &mut [u8], put: usize) -> usize
-    requires { ⌜ Whole (now s) 1 ⌝ }
-    ensures { λ r. ⌜ PutLine (LineAt (now (s .entry)) 1) (now (out .entry)) put (now (out .exit)) r ⌝ }
+fn pointer_write(s: &[u8], tag: u8, out: &mut [u8], put: usize) -> usize
+    requires { ⌜ Tagged (now s) tag 1 ⌝ }
+    ensures { λ r. ⌜ PutLine (LineAt (now (s .entry)) tag) (now (out .entry)) put (now (out .exit)) r ⌝ }
 {
-    let mut cells = [0u8; MOST_ELEMENTS];
-    let mut metadata = [0u8; MOST_ELEMENTS];
-    let i = load_bytes(s, 1, 3, &mut cells);
-    let j = load_bytes(s, 1, 4, &mut metadata);
-    let r = pointer::write(
-        call_number(s, 0),
-        elements(s, 1, 0),
-        elements(s, 1, 1),
-        elements(s, 1, 2),
-        &mut cells[..i],
-        &mut metadata[..j],
-    );
-    let a = put_number(out, put, r.number);
-    let b = put_count(out, a, r.active);
-    let c = put_count(out, b, r.new);
-    let d = put_bytes(out, c, &cells[..i]);
-    let e = put_bytes(out, d, &metadata[..j]);
-    put_end(out, e)
+    let mut a = [0u8; MOST_ELEMENTS];
+    let mut b = [0u8; MOST_ELEMENTS];
+    let n = call_number(s, 0);
+    let wanted = elements(s, tag, 0);
+    let mask = elements(s, tag, 1);
+    let values = elements(s, tag, 2);
+    let cells = load_bytes(s, tag, 3, &mut a);
+    let metadata = load_bytes(s, tag, 4, &mut b);
+    let r = pointer::write(n, wanted, mask, values, cells, metadata);
+    let end = put_answer(out, put, r.number, &[r.active, r.new]);
+    let end = put_bytes(out, end, cells);
+    put_bytes(out, end, metadata)
 }
 
-fn pointer_read(s: &[u8], out: &mut [u8], put: usize) -> usize
-    requires { ⌜ Whole (now s) 2 ⌝ }
-    ensures { λ r. ⌜ PutLine (LineAt (now (s .entry)) 2) (now (out .entry)) put (now (out .exit)) r ⌝ }
+fn pointer_read(s: &[u8], tag: u8, out: &mut [u8], put: usize) -> usize
+    requires { ⌜ Tagged (now s) tag 2 ⌝ }
+    ensures { λ r. ⌜ PutLine (LineAt (now (s .entry)) tag) (now (out .entry)) put (now (out .exit)) r ⌝ }
 {
-    let mut shown = [0u8; MOST_ELEMENTS];
-    let i = load_bytes(s, 2, 2, &mut shown);
-    let r = pointer::read(
-        call_number(s, 0),
-        elements(s, 2, 0),
-        elements(s, 2, 1),
-        &mut shown[..i],
-    );
-    let a = put_number(out, put, r.number);
-    let b = put_bytes(out, a, &shown[..i]);
-    put_end(out, b)
+    let mut a = [0u8; MOST_ELEMENTS];
+    let n = call_number(s, 0);
+    let cells = elements(s, tag, 0);
+    let metadata = elements(s, tag, 1);
+    let shown = load_bytes(s, tag, 2, &mut a);
+    let r = pointer::read(n, cells, metadata, shown);
+    let end = put_answer(out, put, r.number, &[]);
+    put_bytes(out, end, shown)
 }
 
-fn grid_plan(s: &[u8], out: &mut [u8], put: usize) -> usize
-    requires { ⌜ Whole (now s) 3 ⌝ }
-    ensures { λ r. ⌜ PutLine (LineAt (now (s .entry)) 3) (now (out .entry)) put (now (out .exit)) r ⌝ }
+fn grid_plan(s: &[u8], tag: u8, out: &mut [u8], put: usize) -> usize
+    requires { ⌜ Tagged (now s) tag 3 ⌝ }
+    ensures { λ r. ⌜ PutLine (LineAt (now (s .entry)) tag) (now (out .entry)) put (now (out .exit)) r ⌝ }
 {
-    let mut wanted = [0u64; MOST_ELEMENTS];
-    let mut mask = [0u64; MOST_ELEMENTS];
-    let mut values = [0u64; MOST_ELEMENTS];
-    let mut counters = [0u8; MOST_ELEMENTS];
-    let d = load_words(s, 3, 0, &mut wanted);
-    let m = load_words(s, 3, 1, &mut mask);
-    let v = load_words(s, 3, 2, &mut values);
-    let i = load_bytes(s, 3, 3, &mut counters);
-    let r = grid::plan(
-        call_number(s, 0),
-        call_number(s, 1),
-        call_number(s, 2),
-        &wanted[..d],
-        &mask[..m],
-        &values[..v],
-        &mut counters[..i],
-    );
-    let a = put_answer(out, put, r);
-    let b = put_bytes(out, a, &counters[..i]);
-    put_end(out, b)
+    let mut a = [0u64; MOST_ELEMENTS];
+    let mut b = [0u64; MOST_ELEMENTS];
+    let mut c = [0u64; MOST_ELEMENTS];
+    let mut d = [0u8; MOST_ELEMENTS];
+    let z = call_sizes(s);
+    let wanted = load_words(s, tag, 0, &mut a);
+    let mask = load_words(s, tag, 1, &mut b);
+    let values = load_words(s, tag, 2, &mut c);
+    let counters = load_bytes(s, tag, 3, &mut d);
+    let r = grid::plan(z.rows, z.columns, z.k, wanted, mask, values, counters);
+    let end = put_answer(out, put, r.number, &[r.levels, r.faults, r.wrong, r.right]);
+    put_bytes(out, end, counters)
 }
 
-fn grid_read(s: &[u8], out: &mut [u8], put: usize) -> usize
-    requires { ⌜ Whole (now s) 4 ⌝ }
-    ensures { λ r. ⌜ PutLine (LineAt (now (s .entry)) 4) (now (out .entry)) put (now (out .exit)) r ⌝ }
+fn grid_read(s: &[u8], tag: u8, out: &mut [u8], put: usize) -> usize
+    requires { ⌜ Tagged (now s) tag 4 ⌝ }
+    ensures { λ r. ⌜ PutLine (LineAt (now (s .entry)) tag) (now (out .entry)) put (now (out .exit)) r ⌝ }
 {
-    let mut cells = [0u64; MOST_ELEMENTS];
-    let mut shown = [0u64; MOST_ELEMENTS];
-    let c = load_words(s, 4, 0, &mut cells);
-    let i = load_words(s, 4, 2, &mut shown);
-    let r = grid::read(
-        call_number(s, 0),
-        call_number(s, 1),
-        call_number(s, 2),
-        &cells[..c],
-        elements(s, 4, 1),
-        &mut shown[..i],
-    );
-    let a = put_number(out, put, r.number);
-    let b = put_count(out, a, r.index);
-    let d = put_words(out, b, &shown[..i]);
-    put_end(out, d)
+    let mut a = [0u64; MOST_ELEMENTS];
+    let mut b = [0u64; MOST_ELEMENTS];
+    let z = call_sizes(s);
+    let cells = load_words(s, tag, 0, &mut a);
+    let counters = elements(s, tag, 1);
+    let shown = load_words(s, tag, 2, &mut b);
+    let r = grid::read(z.rows, z.columns, z.k, cells, counters, shown);
+    let end = put_answer(out, put, r.number, &[r.index]);
+    put_words(out, end, shown)
 }
 
-fn grid_store(s: &[u8], out: &mut [u8], put: usize) -> usize
-    requires { ⌜ Whole (now s) 5 ⌝ }
-    ensures { λ r. ⌜ PutLine (LineAt (now (s .entry)) 5) (now (out .entry)) put (now (out .exit)) r ⌝ }
+fn grid_store(s: &[u8], tag: u8, out: &mut [u8], put: usize) -> usize
+    requires { ⌜ Tagged (now s) tag 5 ⌝ }
+    ensures { λ r. ⌜ PutLine (LineAt (now (s .entry)) tag) (now (out .entry)) put (now (out .exit)) r ⌝ }
 {
-    let mut wanted = [0u64; MOST_ELEMENTS];
-    let mut mask = [0u64; MOST_ELEMENTS];
-    let mut values = [0u64; MOST_ELEMENTS];
-    let mut cells = [0u64; MOST_ELEMENTS];
-    let d = load_words(s, 5, 0, &mut wanted);
-    let m = load_words(s, 5, 1, &mut mask);
-    let v = load_words(s, 5, 2, &mut values);
-    let i = load_words(s, 5, 4, &mut cells);
+    let mut a = [0u64; MOST_ELEMENTS];
+    let mut b = [0u64; MOST_ELEMENTS];
+    let mut c = [0u64; MOST_ELEMENTS];
+    let mut d = [0u64; MOST_ELEMENTS];
+    let z = call_sizes(s);
+    let wanted = load_words(s, tag, 0, &mut a);
+    let mask = load_words(s, tag, 1, &mut b);
+    let values = load_words(s, tag, 2, &mut c);
+    let counters = elements(s, tag, 3);
+    let cells = load_words(s, tag, 4, &mut d);
     let r = grid::store(
-        call_number(s, 0),
-        call_number(s, 1),
-        call_number(s, 2),
-        &wanted[..d],
-        &mask[..m],
-        &values[..v],
-        elements(s, 5, 3),
-        &mut cells[..i],
+        z.rows,
+        z.columns,
+        z.k,
+        wanted,
+        mask,
+        values,
+        counters,
+        cells,
     );
-    let a = put_answer(out, put, r);
-    let b = put_count(out, a, r.index);
-    let e = put_words(out, b, &cells[..i]);
-    put_end(out, e)
+    let figures = [r.levels, r.faults, r.wrong, r.right, r.index];
+    let end = put_answer(out, put, r.number, &figures);
+    put_words(out, end, cells)
 }
 
-fn grid_convert(s: &[u8], out: &mut [u8], put: usize) -> usize
-    requires { ⌜ Whole (now s) 6 ⌝ }
-    ensures { λ r. ⌜ PutLine (LineAt (now (s .entry)) 6) (now (out .entry)) put (now (out .exit)) r ⌝ }
+fn grid_convert(s: &[u8], tag: u8, out: &mut [u8], put: usize) -> usize
+    requires { ⌜ Tagged (now s) tag 6 ⌝ }
+    ensures { λ r. ⌜ PutLine (LineAt (now (s .entry)) tag) (now (out .entry)) put (now (out .exit)) r ⌝ }
 {
-    let mut converted = [0u8; MOST_ELEMENTS];
-    let i = load_bytes(s, 6, 1, &mut converted);
-    let r = grid::convert(
-        call_number(s, 0),
-        call_number(s, 1),
-        call_number(s, 2),
-        call_number(s, 3),
-        elements(s, 6, 0),
-        &mut converted[..i],
-    );
-    let a = put_number(out, put, r.number);
-    let b = put_count(out, a, r.index);
-    let c = put_bytes(out, b, &converted[..i]);
-    put_end(out, c)
+    let mut a = [0u8; MOST_ELEMENTS];
+    let z = call_sizes(s);
+    let target = call_number(s, 3);
+    let counters = elements(s, tag, 0);
+    let converted = load_bytes(s, tag, 1, &mut a);
+    let r = grid::convert(z.rows, z.columns, z.k, target, counters, converted);
+    let end = put_answer(out, put, r.number, &[r.index]);
+    put_bytes(out, end, converted)
 }
 
-fn transfer(s: &[u8], out: &mut [u8], put: usize) -> usize
-    requires { ⌜ Whole (now s) 7 ⌝ }
-    ensures { λ r. ⌜ PutLine (LineAt (now (s .entry)) 7) (now (out .entry)) put (now (out .exit)) r ⌝ }
+// The first n bytes of a room.
+fn front(room: &mut [u8], n: usize) -> &mut [u8]
+    requires { ⌜ n ≤ length (now room) ⌝ }
+    ensures { λ r. ⌜ length (now r) ≡ n ⌝ }
 {
-    let mut shown = [0u64; MOST_ELEMENTS];
-    let mut steps = [0u8; MOST_STEPS];
-    let i = load_words(s, 7, 2, &mut shown);
-    let n = elements(s, 7, 1).len() + 1;
-    let r = script::run(
-        call_number(s, 0),
-        call_number(s, 1),
-        call_number(s, 2),
-        elements(s, 7, 0),
-        elements(s, 7, 1),
-        &mut shown[..i],
-        &mut steps[..n],
-    );
-    let a = put_number(out, put, r.number);
-    let b = put_count(out, a, r.index);
-    let c = put_words(out, b, &shown[..i]);
-    let d = put_bytes(out, c, &steps[..n]);
-    put_end(out, d)
+    &mut room[..n]
 }
 
-// Makes a call with this tag, and puts its line.
+fn transfer(s: &[u8], tag: u8, out: &mut [u8], put: usize) -> usize
+    requires { ⌜ Tagged (now s) tag 7 ⌝ }
+    ensures { λ r. ⌜ PutLine (LineAt (now (s .entry)) tag) (now (out .entry)) put (now (out .exit)) r ⌝ }
+{
+    let mut a = [0u64; MOST_ELEMENTS];
+    let mut b = [0u8; MOST_STEPS];
+    let z = call_sizes(s);
+    let bytes = elements(s, tag, 0);
+    let script = elements(s, tag, 1);
+    let shown = load_words(s, tag, 2, &mut a);
+    let steps = front(&mut b, script.len() + 1);
+    let r = script::run(z, bytes, script, shown, steps);
+    let end = put_answer(out, put, r.number, &[r.index]);
+    let end = put_words(out, end, shown);
+    put_bytes(out, end, steps)
+}
+
+// Makes a call with this tag, and puts what its line shows.
 fn answer(s: &[u8], tag: u8, out: &mut [u8], put: usize) -> usize
     requires { ⌜ Whole (now s) tag ⌝ }
     ensures { λ r. ⌜ PutLine (LineAt (now (s .entry)) tag) (now (out .entry)) put (now (out .exit)) r ⌝ }
 {
     match tag {
-        1 => pointer_write(s, out, put),
-        2 => pointer_read(s, out, put),
-        3 => grid_plan(s, out, put),
-        4 => grid_read(s, out, put),
-        5 => grid_store(s, out, put),
-        6 => grid_convert(s, out, put),
-        7 => transfer(s, out, put),
+        1 => pointer_write(s, tag, out, put),
+        2 => pointer_read(s, tag, out, put),
+        3 => grid_plan(s, tag, out, put),
+        4 => grid_read(s, tag, out, put),
+        5 => grid_store(s, tag, out, put),
+        6 => grid_convert(s, tag, out, put),
+        7 => transfer(s, tag, out, put),
         _ => put,
     }
 }
@@ -227,8 +198,9 @@ pub fn call(s: &[u8], out: &mut [u8], put: usize) -> Made
     if taken == 0 {
         return Made { taken: 0, put: put };
     }
+    let end = answer(s, tag, out, put);
     Made {
         taken,
-        put: answer(s, tag, out, put),
+        put: put_end(out, end),
     }
 }

@@ -3,8 +3,7 @@ ghost use mathlib.Core.Path.{_≡_};
 ghost use Prim.Native.Nat.{_+_, _*_, _≤_};
 ghost use lib.Dec.{leb};
 ghost use lib.ListN.{length};
-ghost use Rattle.calls.specs.Format.{callNumber, Stands, elements, afterNumbers, afterBuffer, isOver, form, formOf, place, formEnd, isBad, Found};
-ghost use Rattle.calls.specs.Calls.{Loaded};
+ghost use Rattle.calls.specs.Format.{callNumber, sizesOf, afterNumbers, afterBuffer, isOver, form, formOf, place, formEnd, isBad, Found, Held, bufferOf};
 use wire::input::number_at;
 
 // A buffer of a call may have so many elements.
@@ -16,6 +15,24 @@ pub fn call_number(s: &[u8], i: usize) -> usize
     ensures { λ r. ⌜ r ≡ callNumber (now (s .entry)) i ⌝ }
 {
     number_at(s, 1 + 8 * i, 8) as usize
+}
+
+// A grid's rows and columns and its K.
+pub struct Sizes {
+    pub rows: usize,
+    pub columns: usize,
+    pub k: usize,
+}
+
+// A call's first three numbers.
+pub fn call_sizes(s: &[u8]) -> Sizes
+    ensures { λ r. ⌜ r ≡ sizesOf (now (s .entry)) ⌝ }
+{
+    Sizes {
+        rows: call_number(s, 0),
+        columns: call_number(s, 1),
+        k: call_number(s, 2),
+    }
 }
 
 // Where a call's numbers end, 0 where they are cut short.
@@ -147,54 +164,40 @@ pub fn is_bad(s: &[u8], tag: u8) -> bool
     (f.buffers == 0) | found.over
 }
 
-// The elements of the buffer of bytes that starts at `at`.
-fn elements_at(s: &[u8], at: usize) -> &[u8]
-    requires { ⌜ Stands (now s) at 1 ⌝ }
-    ensures { λ r. ⌜ now r ≡ elements (now (s .entry)) at 1 ⌝ }
+// Buffer i of a call with this tag, which is one of bytes.
+pub fn elements(s: &[u8], tag: u8, i: usize) -> &[u8]
+    requires { ⌜ Held (now s) tag i 1 ⌝ }
+    ensures { λ r. ⌜ now r ≡ bufferOf (now (s .entry)) tag i ⌝ }
 {
+    let at = place(s, tag, i);
     let first = at + 2;
     let end = first + number_at(s, at, 2) as usize;
     &s[first..end]
 }
 
-// Copies the elements of the buffer of words that starts at `at`, and says how many there are.
-fn words_at(s: &[u8], at: usize, out: &mut [u64]) -> usize
-    requires { ⌜ Stands (now s) at 8 ⌝ }
-    requires { ⌜ 1024 ≤ length (now out) ⌝ }
-    ensures { λ r. ⌜ Loaded (now (s .entry)) at 8 (now (out .exit)) r ⌝ }
+// The same, copied into a room, so that a call may change it.
+pub fn load_bytes<'a>(s: &[u8], tag: u8, i: usize, room: &'a mut [u8]) -> &'a mut [u8]
+    requires { ⌜ Held (now s) tag i 1 ⌝ }
+    requires { ⌜ 1024 ≤ length (now room) ⌝ }
+    ensures { λ r. ⌜ now r ≡ bufferOf (now (s .entry)) tag i ⌝ }
 {
-    let first = at + 2;
-    let n = number_at(s, at, 2) as usize;
-    let mut i = 0;
-    while i < n {
-        out[i] = number_at(s, first + 8 * i, 8);
-        i += 1;
-    }
-    n
-}
-
-// The elements of buffer i of a call with this tag, which is one of bytes.
-pub fn elements(s: &[u8], tag: u8, i: usize) -> &[u8]
-    requires { ⌜ (i ≤ 4) × Stands (now s) (place (now s) tag i) 1 ⌝ }
-    ensures { λ r. ⌜ now r ≡ elements (now (s .entry)) (place (now (s .entry)) tag i) 1 ⌝ }
-{
-    elements_at(s, place(s, tag, i))
-}
-
-// Copies them, and says how many there are.
-pub fn load_bytes(s: &[u8], tag: u8, i: usize, out: &mut [u8]) -> usize
-    requires { ⌜ (i ≤ 4) × Stands (now s) (place (now s) tag i) 1 ⌝ }
-    requires { ⌜ 1024 ≤ length (now out) ⌝ }
-    ensures { λ r. ⌜ Loaded (now (s .entry)) (place (now (s .entry)) tag i) 1 (now (out .exit)) r ⌝ }
-{
-    bytes::copy(elements(s, tag, i), out)
+    let n = bytes::copy(elements(s, tag, i), room);
+    &mut room[..n]
 }
 
 // The same of a buffer of words.
-pub fn load_words(s: &[u8], tag: u8, i: usize, out: &mut [u64]) -> usize
-    requires { ⌜ (i ≤ 4) × Stands (now s) (place (now s) tag i) 8 ⌝ }
-    requires { ⌜ 1024 ≤ length (now out) ⌝ }
-    ensures { λ r. ⌜ Loaded (now (s .entry)) (place (now (s .entry)) tag i) 8 (now (out .exit)) r ⌝ }
+pub fn load_words<'a>(s: &[u8], tag: u8, i: usize, room: &'a mut [u64]) -> &'a mut [u64]
+    requires { ⌜ Held (now s) tag i 8 ⌝ }
+    requires { ⌜ 1024 ≤ length (now room) ⌝ }
+    ensures { λ r. ⌜ now r ≡ bufferOf (now (s .entry)) tag i ⌝ }
 {
-    words_at(s, place(s, tag, i), out)
+    let at = place(s, tag, i);
+    let first = at + 2;
+    let n = number_at(s, at, 2) as usize;
+    let mut j = 0;
+    while j < n {
+        room[j] = number_at(s, first + 8 * j, 8);
+        j += 1;
+    }
+    &mut room[..n]
 }

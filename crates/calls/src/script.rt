@@ -3,6 +3,7 @@ ghost use mathlib.Core.Path.{_≡_};
 ghost use Prim.Native.Nat.{_+_, _≤_, min};
 ghost use lib.ListN.{length};
 ghost use Rattle.calls.specs.Scripts.{Stepped, Scripted};
+use crate::input::Sizes;
 use fragment_promises::Transfer;
 use grid_promises::ReadAnswer;
 
@@ -26,21 +27,12 @@ fn lump_size(wanted: u8, left: usize) -> usize
     if n < left { n } else { left }
 }
 
-fn step(
-    rows: usize,
-    columns: usize,
-    k: usize,
-    byte: u8,
-    t: Transfer,
-    bytes: &[u8],
-    used: usize,
-    out: &mut [u64],
-) -> Left
+fn step(z: Sizes, byte: u8, t: Transfer, bytes: &[u8], used: usize, out: &mut [u64]) -> Left
     requires { ⌜ used ≤ length (now bytes) ⌝ }
-    ensures { λ r. ⌜ Stepped rows columns k (now (bytes .entry)) byte t used (now (out .entry)) (r .number) (r .transfer) (r .used) (now (out .exit)) ⌝ }
+    ensures { λ r. ⌜ Stepped (z .rows) (z .columns) (z .k) (now (bytes .entry)) byte t used (now (out .entry)) (r .number) (r .transfer) (r .used) (now (out .exit)) ⌝ }
 {
     if byte == START {
-        let s = fragments::start(rows, columns, k);
+        let s = fragments::start(z.rows, z.columns, z.k);
         let begun = s.transfer;
         return Left {
             number: s.number,
@@ -67,25 +59,17 @@ fn step(
 }
 
 // Starts, goes through the script and finishes. The numbers of all steps before the last finish are put into `steps`.
-pub fn run(
-    rows: usize,
-    columns: usize,
-    k: usize,
-    bytes: &[u8],
-    script: &[u8],
-    out: &mut [u64],
-    steps: &mut [u8],
-) -> ReadAnswer
-    requires { ⌜ (length (now script) ≤ 1024) × (length (now steps) ≡ length (now script) + 1) ⌝ }
-    ensures { λ r. ⌜ Scripted rows columns k (now (bytes .entry)) (now (script .entry)) (now (out .entry)) r (now (out .exit)) (now (steps .exit)) ⌝ }
+pub fn run(z: Sizes, bytes: &[u8], script: &[u8], out: &mut [u64], steps: &mut [u8]) -> ReadAnswer
+    requires { ⌜ length (now steps) ≡ length (now script) + 1 ⌝ }
+    ensures { λ r. ⌜ Scripted (z .rows) (z .columns) (z .k) (now (bytes .entry)) (now (script .entry)) (now (out .entry)) r (now (out .exit)) (now (steps .exit)) ⌝ }
 {
-    let s = fragments::start(rows, columns, k);
+    let s = fragments::start(z.rows, z.columns, z.k);
     steps[0] = s.number as u8;
     let mut t = s.transfer;
     let mut used = 0;
     let mut i = 0;
     while i < script.len() {
-        let left = step(rows, columns, k, script[i], t, bytes, used, out);
+        let left = step(z, script[i], t, bytes, used, out);
         i += 1;
         steps[i] = left.number as u8;
         t = left.transfer;
