@@ -10,11 +10,10 @@ use lib.Dec.{eqb}
 use lib.ListN.{length, getD, take, drop, length-append, List·getD-append}
 use lib.Seq.{getD-drop}
 use borrow.Author.Tests.{eqb-false, le-leb, not-true}
-use Rattle.bits.specs.Bits.{number, some, Below}
+use Rattle.bits.specs.Bits.{number, some, Below, numberAt}
 use Rattle.bits.proofs.TestLaws.{clash, and-right, or-neither}
 use Rattle.bits.proofs.BoundLaws.{none-below}
-use Rattle.wire.specs.Numbers.{numberAt}
-use Rattle.wire.proofs.NumberLaws.{number-before}
+use Rattle.words.proofs.LoadLaws.{number-before}
 use Rattle.calls.specs.Format.{many, Stands, isBuffer, isOver, afterNumbers, afterBuffer, table, formOf, placeOf, formEnd, isBad, callEnd, isCutShort, MayBeCall}
 use Rattle.calls.specs.declared.input.Form.{Form}
 use Rattle.calls.proofs.FormatLaws.{a-buffer, over-is, Small, small-form, some-buffers}

@@ -5,9 +5,8 @@ use Prim.Native.Nat.{ℕ, suc, _+_, _-_, _*_, _≤_, _<_}
 use native.Mathlib.Omega.{arith}
 use lib.ListN.{length, getD, take, drop, set, length-take, length-drop}
 use lib.Seq.{getD-take, getD-drop, drop-cons, length-take-le, take-at, take-length}
-use Rattle.bits.specs.Bits.{number, list}
+use Rattle.bits.specs.Bits.{number, list, numberAt}
 use Rattle.bits.proofs.BoundLaws.{length-list, list-getD, list-more}
-use Rattle.wire.specs.Numbers.{numberAt}
 use Rattle.calls.specs.Format.{many, Stands, elements, place, Held, bufferOf}
 use Rattle.calls.proofs.FormatLaws.{held-stands}
 

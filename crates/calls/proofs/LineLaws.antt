@@ -7,13 +7,12 @@ use native.Mathlib.Omega.{arith}
 use native.Mathlib.Decide.{decLt}
 use lib.Dec.{lit≤}
 use lib.ListN.{length, getD, length-append, List·getD-eq-default}
-use Rattle.bits.specs.Bits.{list}
+use Rattle.bits.specs.Bits.{list, numberAt}
 use Rattle.bits.proofs.BoundLaws.{list-ext, getD-list, length-list}
 use Rattle.pointer_promises.proofs.Unique as pointer
 use Rattle.grid_promises.proofs.OneAnswer as grid
 use Rattle.grid_promises.proofs.OneConversion.{one-convert}
-use Rattle.wire.specs.Numbers.{numberAt}
-use Rattle.wire.proofs.NumberLaws.{number-before}
+use Rattle.words.proofs.LoadLaws.{number-before}
 use Rattle.calls.specs.Format.{callNumber, many, Stands, elements, formOf, width, place, bufferOf, numbersOf, buffersOf, callEnd, Whole}
 use Rattle.calls.specs.Text.{each, bytesText, wordsText, behind, line}
 use Rattle.calls.specs.Calls.{counts, LineBy, LineAt, LineOf, ended, pointerWrite, pointerRead, gridPlan, gridRead, gridStore, gridConvert, transfer}

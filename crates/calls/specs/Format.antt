@@ -6,8 +6,7 @@ use mathlib.Core.List.{List, [], _∷_, _++_}
 use Prim.Native.Nat.{ℕ, zero, suc, _+_, _*_, _≤_}
 use lib.Dec.{eqb, leb, ltb}
 use lib.ListN.{length, getD}
-use Rattle.bits.specs.Bits.{some, list, Below}
-use Rattle.wire.specs.Numbers.{numberAt}
+use Rattle.bits.specs.Bits.{some, list, Below, numberAt}
 use Rattle.calls.specs.declared.input.Form.{Form}
 use Rattle.calls.specs.declared.input.Reach.{Reach}
 use Rattle.calls.specs.declared.input.Sizes.{Sizes}

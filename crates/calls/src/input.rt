@@ -4,7 +4,7 @@ ghost use Prim.Native.Nat.{_+_, _*_, _≤_};
 ghost use lib.Dec.{leb};
 ghost use lib.ListN.{length};
 ghost use Rattle.calls.specs.Format.{callNumber, sizesOf, afterNumbers, afterBuffer, isOver, form, formOf, place, formEnd, isBad, Found, Held, bufferOf};
-use wire::input::number_at;
+use words::number_at;
 
 // A buffer of a call may have so many elements.
 pub const MOST_ELEMENTS: usize = 1024;
