@@ -2,6 +2,7 @@
 mod shows;
 mod stores;
 
+pub use grid_levels::plan;
 use grid_levels::refused;
 use grid_promises::Answer;
 use grid_promises::ConvertAnswer;
@@ -13,7 +14,7 @@ use refusals::MISREAD;
 ghost use mathlib.Core.Path.{_≡_};
 ghost use mathlib.Core.Bool.{false};
 ghost use lib.ListN.{length};
-ghost use Rattle.grid_promises.specs.Promises.{Read, Plan, Store};
+ghost use Rattle.grid_promises.specs.Promises.{Read, Store};
 ghost use Rattle.grid_promises.specs.Calls.{block, planPast};
 ghost use Rattle.grid_promises.specs.Conversion.{Convert};
 ghost use Rattle.grid.specs.Steps.{StoreSized};
@@ -34,21 +35,6 @@ pub fn read(
         number: s.number,
         index: s.index,
     }
-}
-
-// Works out levels that mask every fault for the data, and fills the counters with how many of them took each line; or refuses. It needs no cells.
-pub fn plan(
-    rows: usize,
-    columns: usize,
-    k: usize,
-    data: &[u64],
-    mask: &[u64],
-    values: &[u64],
-    counters: &mut [u8],
-) -> Answer
-    ensures { λ r. ⌜ Plan (block rows columns (now («data» .entry)) (now (mask .entry)) (now (values .entry))) k (now (counters .entry)) r (now (counters .exit)) ⌝ }
-{
-    grid_levels::plan(rows, columns, k, data, mask, values, counters)
 }
 
 // Stores the data by counters, whoever made them; or refuses where a stuck cell would then read wrong, and stores nothing.
