@@ -240,5 +240,5 @@ held-stands {bs} {tag} {i} {w} h e =
     subst (λ x. Stands bs x (suc w)) (sym e) (subst (Stands bs (place bs tag i)) (h .wide) (stands-at bs tag i (h .whole) (held-index h)))
 
 -- buffer i of a call whose tag is t
-pub held : {bs : List ℕ} {tag t : ℕ} (i : ℕ) → Tagged bs tag t → Held bs tag i (width t i)
-held i h = record { wide = ap (λ t. width t i) (h .is); whole = h .whole }
+pub held : {bs : List ℕ} {tag : ℕ} (t i : ℕ) → Tagged bs tag t → Held bs tag i (width t i)
+held t i h = record { wide = ap (λ x. width x i) (h .is); whole = h .whole }

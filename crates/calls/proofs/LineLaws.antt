@@ -1,4 +1,4 @@
--- Laws of a call's line: bytes that follow the call change nothing of it, it has at most 32,928 bytes, and no second text is it. Assumes nothing.
+-- Laws of a call's line: bytes that follow the call change nothing of it, it is short, and there is no second one. Assumes nothing.
 use mathlib.Core.Path.{_≡_, sym, ap, subst, transport, _∙_}
 use mathlib.Core.List.{List, [], _∷_, _++_}
 use Prim.Native.Nat.{ℕ, suc, _+_, _*_, _≤_, _<_}
@@ -13,11 +13,13 @@ use Rattle.pointer_promises.proofs.Unique as pointer
 use Rattle.grid_promises.proofs.OneAnswer as grid
 use Rattle.grid_promises.proofs.OneConversion.{one-convert}
 use Rattle.words.proofs.LoadLaws.{number-before}
+use Rattle.wire.proofs.TextLaws.{put-same, one-put}
 use Rattle.calls.specs.Format.{callNumber, many, Stands, elements, formOf, width, place, bufferOf, numbersOf, buffersOf, callEnd, Whole}
 use Rattle.calls.specs.Text.{each, bytesText, wordsText, behind, line}
 use Rattle.calls.specs.Calls.{counts, LineBy, LineAt, LineOf, ended, pointerWrite, pointerRead, gridPlan, gridRead, gridStore, gridConvert, transfer}
+use Rattle.calls.specs.Claims.{OneLine, LineIsShort, OnePrinted}
 use Rattle.calls.proofs.FormatLaws.{stands-at, number-stands}
-use Rattle.calls.proofs.StreamLaws.{place-more, tag-more}
+use Rattle.calls.proofs.StreamLaws.{call-within, place-more, tag-more}
 use Rattle.calls.proofs.ElementLaws.{length-elements}
 use Rattle.calls.proofs.TextLaws.{length-buffer, length-line}
 use Rattle.calls.proofs.ScriptLaws.{one-script, scripted-lengths}
@@ -47,10 +49,10 @@ module _ (bs rest : List ℕ) where
         let s = stands-at bs tag i h l in
         elements-more (place bs tag i) (width tag i) s ∙ ap (λ p. elements (bs ++ rest) p (width tag i)) (sym (place-more bs rest (formOf tag) i (s .place))))
 
-  pub line-more : (text : List ℕ) → 0 < length bs → (callEnd bs ≡ 0 → ⊥) → LineOf bs text → LineOf (bs ++ rest) text
-  line-more _ k h (ended {text = text} l) =
+  pub line-more : (text : List ℕ) → (callEnd bs ≡ 0 → ⊥) → LineOf bs text → LineOf (bs ++ rest) text
+  line-more _ h (ended {text = text} l) =
       let tag : ℕ = getD bs 0 0 in
-      ended (subst (λ t. LineAt (bs ++ rest) t text) (sym (tag-more bs rest k)) (transport (λ i. LineBy tag (numbers-of-more tag h i) (buffers-of-more tag h i) text) l))
+      ended (subst (λ t. LineAt (bs ++ rest) t text) (sym (tag-more bs rest (omega (arith, call-within bs)))) (transport (λ i. LineBy tag (numbers-of-more tag h i) (buffers-of-more tag h i) text) l))
 
 -- ---- how long a line is
 
@@ -86,7 +88,7 @@ few bs tag h i =
       | no l ↦ rw (List·getD-eq-default (buffersOf bs tag) [] {n = i} (rw length-list (omega arith))) (omega arith)
     ]
 
-pub line-short : (bs text : List ℕ) → (callEnd bs ≡ 0 → ⊥) → LineOf bs text → length text ≤ 32928
+pub line-short : LineIsShort
 line-short bs _ h (ended l) = rw length-append (omega (arith, few-short (getD bs 0 0) (few bs (getD bs 0 0) h) l))
 
 -- ---- no second line
@@ -107,5 +109,20 @@ one-by-tag tag (gridConvert l _) (gridConvert m _) =
 one-by-tag tag (transfer s) (transfer s′) =
     let (a, o, n) = one-script s s′ in λ i. line (a i .number) (a i .index ∷ []) (wordsText (o i) ∷ bytesText (n i) ∷ [])
 
-pub one-line : (bs text text′ : List ℕ) → LineOf bs text → LineOf bs text′ → text ≡ text′
+pub one-line : OneLine
 one-line bs _ _ (ended l) (ended m) = ap (λ t. t ++ (10 ∷ [])) (one-by-tag (getD bs 0 0) l m)
+
+-- so what is done has one outcome
+pub one-printed : OnePrinted
+one-printed bs before after after′ taken taken′ p q q′ h k =
+    let e : taken ≡ taken′ = h .takes ∙ sym (k .takes) in
+    elim (decLt 0 taken) [
+      | yes l ↦
+          let m = h .made (λ z. omega arith) in
+          let n = k .made (λ z. omega arith) in
+          let (a, b) = one-put (put-same (one-line bs (m .text) (n .text) (m .line) (n .line)) (m .put)) (n .put) in (e, a, b)
+      | no l ↦
+          let (a, b) = h .none (omega arith) in
+          let (c, d) = k .none (omega arith) in
+          (e, a ∙ sym c, b ∙ sym d)
+    ]

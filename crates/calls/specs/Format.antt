@@ -2,11 +2,11 @@
 -- buffer can start or end, stands for what is no call. Assumes nothing.
 use mathlib.Core.Path.{_≡_}
 use mathlib.Core.Bool.{Bool, true, cond, not, _&&_, _||_}
-use mathlib.Core.List.{List, [], _∷_, _++_}
+use mathlib.Core.List.{List, [], _∷_}
 use Prim.Native.Nat.{ℕ, zero, suc, _+_, _*_, _≤_}
 use lib.Dec.{eqb, leb, ltb}
 use lib.ListN.{length, getD}
-use Rattle.bits.specs.Bits.{some, list, Below, numberAt}
+use Rattle.bits.specs.Bits.{some, list, numberAt}
 use Rattle.calls.specs.declared.input.Form.{Form}
 use Rattle.calls.specs.declared.input.Reach.{Reach}
 use Rattle.calls.specs.declared.input.Sizes.{Sizes}
@@ -131,7 +131,3 @@ callEnd bs = formEnd bs (formOf (getD bs 0 0))
 unfoldable pub isCutShort : List ℕ → Bool
 isCutShort [] = true
 isCutShort (tag ∷ bs) = eqb (callEnd (tag ∷ bs)) 0 && not (isBad (tag ∷ bs) (formOf tag))
-
--- and some bytes that follow do make it a call (proofs/CutLaws.antt)
-abbrev pub MayBeCall : Type 0
-MayBeCall = (bs : List ℕ) → Below 256 bs → isCutShort bs ≡ true → (rest : List ℕ) × (callEnd (bs ++ rest) ≡ 0 → ⊥)

@@ -17,8 +17,8 @@ grid-convert-spec =
     (tie.spec
     -- the sizes and the target; counters; output, loaded
     (λ c κs. tt) (λ c κs. lit≤ tt)
-    (λ c κs. held 0 (c .before .before .before .before .pre))
-    (λ c. search needs) (λ c κs. (held 1 (c .before .before .before .before .before .before .pre), lit≤ tt))
+    (λ c κs. held 6 0 (search needs))
+    (λ c. search needs) (λ c κs. (held 6 1 (search needs), lit≤ tt))
     -- the call, and what is put
     (λ c κs. tt) (λ c. search needs) (λ c κs. tt) (λ c κs. tt) (λ c. search needs)
     -- returns

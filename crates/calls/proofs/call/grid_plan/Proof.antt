@@ -18,10 +18,10 @@ grid-plan-spec =
     (tie.spec
     -- the sizes; data, mask, values and counters, loaded
     (λ c κs. tt)
-    (λ c. search needs) (λ c κs. (held 0 (c .before .before .before .before .pre), lit≤ tt))
-    (λ c. search needs) (λ c κs. (held 1 (c .before .before .before .before .before .before .pre), lit≤ tt))
-    (λ c. search needs) (λ c κs. (held 2 (c .before .before .before .before .before .before .before .before .pre), lit≤ tt))
-    (λ c. search needs) (λ c κs. (held 3 (c .before .before .before .before .before .before .before .before .before .before .pre), lit≤ tt))
+    (λ c. search needs) (λ c κs. (held 3 0 (search needs), lit≤ tt))
+    (λ c. search needs) (λ c κs. (held 3 1 (search needs), lit≤ tt))
+    (λ c. search needs) (λ c κs. (held 3 2 (search needs), lit≤ tt))
+    (λ c. search needs) (λ c κs. (held 3 3 (search needs), lit≤ tt))
     -- the call, and what is put
     (λ c κs. tt) (λ c. search needs) (λ c κs. tt) (λ c κs. tt) (λ c. search needs)
     -- returns

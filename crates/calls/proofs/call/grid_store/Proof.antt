@@ -18,11 +18,11 @@ grid-store-spec =
     (tie.spec
     -- the sizes; data, mask and values, loaded; counters; cells, loaded
     (λ c κs. tt)
-    (λ c. search needs) (λ c κs. (held 0 (c .before .before .before .before .pre), lit≤ tt))
-    (λ c. search needs) (λ c κs. (held 1 (c .before .before .before .before .before .before .pre), lit≤ tt))
-    (λ c. search needs) (λ c κs. (held 2 (c .before .before .before .before .before .before .before .before .pre), lit≤ tt))
-    (λ c κs. held 3 (c .before .before .before .before .before .before .before .before .before .pre))
-    (λ c. search needs) (λ c κs. (held 4 (c .before .before .before .before .before .before .before .before .before .before .before .pre), lit≤ tt))
+    (λ c. search needs) (λ c κs. (held 5 0 (search needs), lit≤ tt))
+    (λ c. search needs) (λ c κs. (held 5 1 (search needs), lit≤ tt))
+    (λ c. search needs) (λ c κs. (held 5 2 (search needs), lit≤ tt))
+    (λ c κs. held 5 3 (search needs))
+    (λ c. search needs) (λ c κs. (held 5 4 (search needs), lit≤ tt))
     -- the call, and what is put
     (λ c κs. tt) (λ c. search needs) (λ c κs. tt) (λ c κs. tt) (λ c. search needs)
     -- returns

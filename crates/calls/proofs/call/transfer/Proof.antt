@@ -20,10 +20,10 @@ transfer-spec =
     (tie.spec
     -- the sizes; bytes and script; output, loaded
     (λ c κs. tt)
-    (λ c κs. held 0 (c .before .before .before .pre)) (λ c κs. held 1 (c .before .before .before .before .pre))
-    (λ c. search needs) (λ c κs. (held 2 (c .before .before .before .before .before .before .pre), lit≤ tt))
+    (λ c κs. held 7 0 (search needs)) (λ c κs. held 7 1 (search needs))
+    (λ c. search needs) (λ c κs. (held 7 2 (search needs), lit≤ tt))
     -- room for the numbers of the steps
-    (λ c. search needs) (λ c. search needs) (λ c κs. omega (arith, few-of (held 1 (c .before .before .before .before .before .before .before .before .pre)) (c .before .before .before .elements2 .ensures)))
+    (λ c. search needs) (λ c. search needs) (λ c κs. omega (arith, few-of (held 7 1 (search needs)) (c .before .before .before .elements2 .ensures)))
     -- the call, and what is put
     (λ c κs. search needs) (λ c. search needs) (λ c κs. tt) (λ c κs. tt) (λ c κs. tt) (λ c. search needs)
     -- returns

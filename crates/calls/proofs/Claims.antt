@@ -1,0 +1,19 @@
+-- A proof of each claim. Assumes nothing.
+use Rattle.calls.specs.Claims.{Claims}
+use Rattle.calls.proofs.StreamLaws.{call-within, call-more, short-few}
+use Rattle.calls.proofs.CutLaws.{may-be-call}
+use Rattle.calls.proofs.LineLaws.{one-line, line-more, line-short, one-printed}
+use Rattle.calls.proofs.ScriptLaws.{one-script}
+
+pub claims : Claims
+claims = record {
+  endsWithin = call-within;
+  endStays = call-more;
+  cutIsShort = short-few;
+  mayBeCall = may-be-call;
+  oneLine = one-line;
+  lineStays = line-more;
+  lineIsShort = line-short;
+  onePrinted = one-printed;
+  oneScript = λ m n k bytes script out after after′ numbers numbers′ a a′. one-script;
+}
