@@ -61,18 +61,24 @@ module _ (x k t : ℕ) (f : ℕ → ℕ) (e : x ≡ word 64 (λ i. has (f (t + i
 
 -- ---- bytes of a word
 
-module _ (q v : ℕ) (f : ℕ → Bool) (e : v ≡ word 64 (λ i. f (8 * q + i))) where
-  byte-of : (j : ℕ) → j < 8 → v / 2 ^ (8 * j) % 2 ^ 8 ≡ word 8 (λ k. f (8 * (q + j) + k))
-  byte-of j h =
-      is-word 8 (v / 2 ^ (8 * j) % 2 ^ 8) (λ k. f (8 * (q + j) + k)) (mod-lt _ (pow-pos 8))
-      (λ k l. let there : 8 * q + (8 * j + k) ≡ 8 * (q + j) + k = omega arith in
-      has-low 8 (v / 2 ^ (8 * j)) k l ∙ has-shr v (8 * j) k ∙ ap (λ y. has y (8 * j + k)) e ∙ has-word 64 (λ i. f (8 * q + i)) (8 * j + k) (omega arith) ∙ ap f there)
+pub bits-of : (v : ℕ) (f : ℕ → Bool) → v ≡ word 64 f → (i : ℕ) → i < 64 → has v i ≡ f i
+bits-of v f e i l = ap (λ y. has y i) e ∙ has-word 64 f i l
 
-  pub filled-more : (j : ℕ) (bs : List ℕ) → j < 8 → q + j < length bs → Filled (q + j) f bs → Filled (q + (j + 1)) f (set bs (q + j) (v / 2 ^ (8 * j) % 256))
-  filled-more j bs h l k t u w =
-      ⊎-elim (λ r. getD-set-other bs (q + j) t (v / 2 ^ (8 * j) % 256) 0 (λ z. absurd (omega arith)) ∙ k t r (omega arith))
-      (λ r. let here : q + j ≡ t = omega arith in
-      subst (λ y. getD (set bs (q + j) (v / 2 ^ (8 * j) % 256)) y 0 ≡ word 8 (λ k. f (8 * y + k))) here (getD-set-same bs (q + j) (v / 2 ^ (8 * j) % 256) 0 l ∙ byte-of j h)) (lt-or-le t (q + j))
+pub byte-stored : (q v : ℕ) (bs : List ℕ) → q < length bs → Stores q 1 v bs (set bs q (v % 256))
+byte-stored q v bs h f k e t u w =
+    ⊎-elim (λ r. getD-set-other bs q t (v % 256) 0 (λ z. absurd (omega arith)) ∙ k t r (omega arith))
+    (λ r. let here : q ≡ t = omega arith in
+    let byte : v % 2 ^ 8 ≡ word 8 (λ j. f (8 * q + j)) = is-word 8 (v % 2 ^ 8) (λ j. f (8 * q + j)) (mod-lt _ (pow-pos 8)) (λ j l. has-low 8 v j l ∙ e j l) in
+    subst (λ y. getD (set bs q (v % 256)) y 0 ≡ word 8 (λ j. f (8 * y + j))) here (getD-set-same bs q (v % 256) 0 h ∙ byte)) (lt-or-le t q)
+
+-- bytes stored after others, which they may overlap: where they do, both store the same
+pub both-stored : (q a s b v : ℕ) (before middle after : List ℕ) → s ≤ a → a ≤ s + b → Stores q a v before middle → Stores (q + s) b (v / 2 ^ (8 * s)) middle after
+    → Stores q (s + b) v before after
+both-stored q a s b v before middle after h k one two f start e =
+    let most = one f start (λ i l. e i (omega arith)) in
+    let rest : (i : ℕ) → i < 8 * b → has (v / 2 ^ (8 * s)) i ≡ f (8 * (q + s) + i) =
+    λ i l. let there : 8 * q + (8 * s + i) ≡ 8 * (q + s) + i = omega arith in has-shr v (8 * s) i ∙ e (8 * s + i) (omega arith) ∙ ap f there in
+    λ t l. two f (λ t l. most t (omega arith)) rest t (omega arith)
 
 -- past the last byte there is nothing to fill
 pub filled-past : (q r : ℕ) (f : ℕ → Bool) (bs : List ℕ) → length bs ≤ q → Filled q f bs → Filled r f bs
@@ -91,7 +97,9 @@ pub singles-stored : (w : ℕ) (first second : Planes) (before middle after : Li
     → StoresPlanes w first second after
 singles-stored w first second before middle after e s u =
     subst (λ w. StoresPlanes w first second after) (sym e)
-    (λ f a b. u (bitOf 1 f) (s (bitOf 1 f) (filled-none (bitOf 1 f) before) (single-word 0 0 (first .low) f refl (from-first f first a .lower))) (single-word 64 8 (second .low) f refl (b .lower)))
+    (λ f a b.
+    u (bitOf 1 f) (s (bitOf 1 f) (filled-none (bitOf 1 f) before) (bits-of (first .low) _ (single-word 0 0 (first .low) f refl (from-first f first a .lower))))
+    (bits-of (second .low) _ (single-word 64 8 (second .low) f refl (b .lower))))
 
 -- 64 counters of two bits, in two words
 module _ (t q v x : ℕ) (p : Planes) (before middle after : List ℕ) (f : ℕ → ℕ) (h : 8 * q ≡ 2 * t) (b : AreBits 64 (λ i. f (t + i)) p) where
@@ -101,7 +109,14 @@ module _ (t q v x : ℕ) (p : Planes) (before middle after : List ℕ) (f : ℕ 
       let one = from-counter 2 t q v f (lit< tt) h (pv (λ i. f (t + i)) (λ i l. in-plane (p .low) 0 t f (b .lower) i (omega arith)) (λ i l. in-plane (p .high) 1 t f (b .higher) i (omega arith))) in
       let two = from-counter 2 (t + 32) (q + 8) x f (lit< tt) (omega arith)
       (px (λ i. f (t + 32 + i)) (λ i l. from-line (p .low) 0 t f (b .lower) 32 i (omega arith)) (λ i l. from-line (p .high) 1 t f (b .higher) 32 i (omega arith))) in
-      sx (bitOf 2 f) (sv (bitOf 2 f) k one) two
+      sx (bitOf 2 f) (sv (bitOf 2 f) k (bits-of v _ one)) (bits-of x _ two)
+
+-- there are no bytes for the others
+pub half-stored : (w : ℕ) (first second : Planes) → w ≡ 2 → (v x : ℕ) (b0 b1 b2 : List ℕ) → length b2 ≤ 16
+    → Pairs (first .low) (first .high) v → Stores 0 8 v b0 b1 → Pairs (first .low / 2 ^ 32) (first .high / 2 ^ 32) x → Stores 8 8 x b1 b2 → StoresPlanes w first second b2
+half-stored w first second e v x b0 b1 b2 l pv sv px sx =
+    subst (λ w. StoresPlanes w first second b2) (sym e)
+    (λ f a b. filled-past 16 32 (bitOf 2 f) b2 l (both-halves 0 0 v x first b0 b1 b2 f refl (from-first f first a) pv sv px sx (filled-none (bitOf 2 f) b0)))
 
 pub pairs-stored : (w : ℕ) (first second : Planes) → w ≡ 2 → (v x y z : ℕ) (b0 b1 b2 b3 b4 : List ℕ)
     → Pairs (first .low) (first .high) v → Stores 0 8 v b0 b1 → Pairs (first .low / 2 ^ 32) (first .high / 2 ^ 32) x → Stores 8 8 x b1 b2

@@ -17,11 +17,11 @@ use Rattle.rdis.proofs.PackingLaws.{row-in-order, column-in-order, in-order-bel
 use Rattle.grid_sets.specs.Sets.{times}
 use Rattle.grid_counters.specs.declared.planes.Planes.{Planes}
 use Rattle.grid_counters.specs.declared.threes.Threes.{Threes}
-use Rattle.grid_counters.specs.Steps.{AreBits, AreThrees, spaced, Pairs, Triples, Parts, StoresThrees, StoresPlanes, StoresOnes}
+use Rattle.grid_counters.specs.Steps.{AreBits, AreThrees, spaced, Pairs, Triples, Parts, StoresPlanes, FillsPlanes, StoresOnes}
 use Rattle.grid_counters.proofs.ShiftLaws.{masked-word}
 use Rattle.grid_counters.proofs.PlaneLaws.{plane-as}
 use Rattle.grid_counters.proofs.FillLaws.{paired, all, all-past, all-stored}
-use Rattle.grid_counters.proofs.ThreeFillLaws.{tripled, all-threes-filled}
+use Rattle.grid_counters.proofs.ThreeFillLaws.{tripled}
 
 -- ---- planes without a second bit
 
@@ -60,10 +60,8 @@ module _ (f : ℕ → ℕ) (few : (t : ℕ) → f t < 2) (v : ℕ) (e : v ≡ wo
 pub ones-stored : (w first second : ℕ) (after : List ℕ) → StoresPlanes w (lowest first) (lowest second) after → StoresOnes w first second after
 ones-stored w first second after s f few a b = s f (are-bits f few first a) (are-bits (λ i. f (64 + i)) (λ t. few (64 + t)) second b)
 
-pub ones-stored-by-three : (first second : ℕ) (before middle after : List ℕ) → StoresThrees 0 (lowest-of-three first) before middle → StoresThrees 24 (lowest-of-three second) middle after
-    → StoresOnes 3 first second after
-ones-stored-by-three first second before middle after s u f few a b =
-    all-threes-filled (lowest-of-three first) (lowest-of-three second) before middle after s u f (are-threes f few first a) (are-threes (λ i. f (64 + i)) (λ t. few (64 + t)) second b)
+pub ones-stored-by-three : (first second : ℕ) (after : List ℕ) → FillsPlanes 3 (lowest-of-three first) (lowest-of-three second) after → StoresOnes 3 first second after
+ones-stored-by-three first second after s f few a b = s f (are-threes f few first a) (are-threes (λ i. f (64 + i)) (λ t. few (64 + t)) second b)
 
 -- ---- all counters of one level
 

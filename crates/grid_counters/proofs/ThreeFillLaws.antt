@@ -13,10 +13,10 @@ use Rattle.bits.proofs.BitLaws.{has-or, word-lt, word-ext, is-word}
 use Rattle.rdis.specs.Packing.{bytesFor, inOrder, packed}
 use Rattle.rdis.proofs.PackingLaws.{row-in-order, column-in-order}
 use Rattle.grid_counters.specs.declared.threes.Threes.{Threes}
-use Rattle.grid_counters.specs.Steps.{AreThrees, bitOf, spaced, Stores, Triples, Parts, StoresThrees, FillsPlanes}
+use Rattle.grid_counters.specs.Steps.{AreThrees, Filled, bitOf, spaced, Stores, Triples, Parts, StoresThrees, FillsPlanes}
 use Rattle.grid_counters.proofs.ShiftLaws.{joined, from-bit}
 use Rattle.grid_counters.proofs.SpacedLaws.{spaced-bit, spaced-moved, thirds-inside, pick-three}
-use Rattle.grid_counters.proofs.FillLaws.{bit-from, from-counter, in-plane, from-line, filled-none, all, all-past, all-stored}
+use Rattle.grid_counters.proofs.FillLaws.{bit-from, from-counter, in-plane, from-line, bits-of, filled-past, filled-none, all, all-past, all-stored}
 use Rattle.grid_counters.proofs.ThreeLaws.{threes-as, threes-ext}
 
 -- the lowest bits of three planes, each at its own of every three places
@@ -78,17 +78,25 @@ module _ (q : ℕ) (p : Threes) (a b c d : ℕ) (parts : Parts p a b c d) where
       → Stores (q + 16) 8 (bitOr (d * 2 ^ 16 % 2 ^ 64) (c / 2 ^ 32)) b2 b3 → StoresThrees q p b0 b3
   threes-stored b0 b1 b2 b3 s1 s2 s3 f t h bits k =
       let g = bitOf 3 f in
-      let one = s1 g k (from-counter 3 t q _ f (lit< tt) h (word-1 f t h bits)) in
-      let two = s2 g (λ i l. one i (omega arith)) (placed f t h bits 8 _ (word-2 f t h bits)) in
-      let three = s3 g (λ i l. two i (omega arith)) (placed f t h bits 16 _ (word-3 f t h bits)) in
+      let one = s1 g k (bits-of _ _ (from-counter 3 t q _ f (lit< tt) h (word-1 f t h bits))) in
+      let two = s2 g (λ i l. one i (omega arith)) (bits-of _ _ (placed f t h bits 8 _ (word-2 f t h bits))) in
+      let three = s3 g (λ i l. two i (omega arith)) (bits-of _ _ (placed f t h bits 16 _ (word-3 f t h bits))) in
       λ i l. three i (omega arith)
 
 -- the first 64 counters, numbered as the others are
 threes-from-first : (f : ℕ → ℕ) (p : Threes) → AreThrees 64 f p → AreThrees 64 (λ i. f (0 + i)) p
 threes-from-first f p = threes-ext 64 f (λ i. f (0 + i)) p (λ i _. ap f (omega arith))
 
-pub all-threes-filled : (first second : Threes) (before middle after : List ℕ) → StoresThrees 0 first before middle → StoresThrees 24 second middle after → FillsPlanes 3 first second after
-all-threes-filled first second before middle after s u f a b = u f 64 refl b (s f 0 refl (threes-from-first f first a) (filled-none (bitOf 3 f) before))
+module _ (first second : Threes) (before middle : List ℕ) (s : StoresThrees 0 first before middle) where
+  half-filled : (f : ℕ → ℕ) → AreThrees 64 f first → Filled 24 (bitOf 3 f) middle
+  half-filled f a = s f 0 refl (threes-from-first f first a) (filled-none (bitOf 3 f) before)
+
+  -- there are no bytes for the others
+  pub half-threes-filled : length middle ≤ 24 → FillsPlanes 3 first second middle
+  half-threes-filled l f a b = filled-past 24 48 (bitOf 3 f) middle l (half-filled f a)
+
+  pub all-threes-filled : (after : List ℕ) → StoresThrees 24 second middle after → FillsPlanes 3 first second after
+  all-threes-filled after u f a b = u f 64 refl b (half-filled f a)
 
 -- ---- all counters
 

@@ -40,9 +40,10 @@ spaced d v p = ltb (p % d) 1 && has v (p / d)
 abbrev pub Filled : ℕ → (ℕ → Bool) → List ℕ → Type 0
 Filled q f bs = (t : ℕ) → t < q → t < length bs → getD bs t 0 ≡ word 8 (λ k. f (8 * t + k))
 
--- the n lowest bytes of v are stored from byte q on: where the first q bytes are made of the bits f, and v of the bits that follow, so are the first q + n
+-- the n lowest bytes of v are stored from byte q on: where the first q bytes are made of the bits f, and those bytes of v of the bits that follow, so are the
+-- first q + n
 abbrev pub Stores : ℕ → ℕ → ℕ → List ℕ → List ℕ → Type 0
-Stores q n v before after = (f : ℕ → Bool) → Filled q f before → v ≡ word 64 (λ i. f (8 * q + i)) → Filled (q + n) f after
+Stores q n v before after = (f : ℕ → Bool) → Filled q f before → ((i : ℕ) → i < 8 * n → has v i ≡ f (8 * q + i)) → Filled (q + n) f after
 
 -- v has the bits of 32 counters of two bits, which are the lowest bits of two planes
 abbrev pub Pairs : ℕ → ℕ → ℕ → Type 0

@@ -28,19 +28,57 @@ fn pairs(low: u64, high: u64) -> u64
     (apart(high) << 1) | apart(low)
 }
 
-// Stores the `n` lowest bytes of a word from byte `q` on.
-fn split(out: &mut [u8], q: usize, n: usize, v: u64)
-    requires { ⌜ (q ≤ 64) × (n ≤ 8) × (q + n ≤ length (now out)) ⌝ }
-    ensures { λ _. ⌜ Stores q n v (now (out .entry)) (now (out .exit)) ⌝ }
+// Stores the lowest byte of a word at byte `q`; the two lowest, the four lowest and all eight from byte `q` on. The compiler makes one store of each.
+fn put(out: &mut [u8], q: usize, v: u64)
+    requires { ⌜ q < length (now out) ⌝ }
+    ensures { λ _. ⌜ Stores q 1 v (now (out .entry)) (now (out .exit)) ⌝ }
 {
-    let mut j = 0;
-    while j < n {
-        out[q + j] = ((v >> (8 * j)) % 256) as u8;
-        j += 1;
-    }
+    out[q] = (v % 256) as u8;
 }
 
-// Stores a word from byte `q` on, as far as there are bytes. Eight are stored by themselves: the compiler then makes one store of them.
+fn put_two(out: &mut [u8], q: usize, v: u64)
+    requires { ⌜ q + 2 ≤ length (now out) ⌝ }
+    ensures { λ _. ⌜ Stores q 2 v (now (out .entry)) (now (out .exit)) ⌝ }
+{
+    put(out, q, v);
+    put(out, q + 1, v >> 8);
+}
+
+fn put_four(out: &mut [u8], q: usize, v: u64)
+    requires { ⌜ q + 4 ≤ length (now out) ⌝ }
+    ensures { λ _. ⌜ Stores q 4 v (now (out .entry)) (now (out .exit)) ⌝ }
+{
+    put_two(out, q, v);
+    put_two(out, q + 2, v >> 16);
+}
+
+fn put_eight(out: &mut [u8], q: usize, v: u64)
+    requires { ⌜ q + 8 ≤ length (now out) ⌝ }
+    ensures { λ _. ⌜ Stores q 8 v (now (out .entry)) (now (out .exit)) ⌝ }
+{
+    put_four(out, q, v);
+    put_four(out, q + 4, v >> 32);
+}
+
+// Stores `n` bytes, fewer than eight, by two stores that may overlap: where they do, both store the same.
+fn put_few(out: &mut [u8], q: usize, n: usize, v: u64)
+    requires { ⌜ (0 < n) × (n < 8) × (q + n ≤ length (now out)) ⌝ }
+    ensures { λ _. ⌜ Stores q n v (now (out .entry)) (now (out .exit)) ⌝ }
+{
+    if n >= 4 {
+        put_four(out, q, v);
+        put_four(out, q + (n - 4), v >> (8 * (n - 4)));
+        return;
+    }
+    if n >= 2 {
+        put_two(out, q, v);
+        put_two(out, q + (n - 2), v >> (8 * (n - 2)));
+        return;
+    }
+    put(out, q, v);
+}
+
+// Stores a word from byte `q` on, as far as there are bytes.
 pub fn store(out: &mut [u8], q: usize, v: u64)
     requires { ⌜ q ≤ 64 ⌝ }
     ensures { λ _. ⌜ Stores q 8 v (now (out .entry)) (now (out .exit)) ⌝ }
@@ -50,10 +88,10 @@ pub fn store(out: &mut [u8], q: usize, v: u64)
     }
     let n = out.len() - q;
     if n < 8 {
-        split(out, q, n, v);
-    } else {
-        split(out, q, 8, v);
+        put_few(out, q, n, v);
+        return;
     }
+    put_eight(out, q, v);
 }
 
 // Stores 128 counters, which have these planes, as far as there are bytes. The second 64 come after the first.
@@ -68,6 +106,9 @@ pub fn fill(out: &mut [u8], width: usize, first: Planes, second: Planes)
     }
     store(out, 0, pairs(first.low, first.high));
     store(out, 8, pairs(first.low >> 32, first.high >> 32));
+    if out.len() <= 16 {
+        return;
+    }
     store(out, 16, pairs(second.low, second.high));
     store(out, 24, pairs(second.low >> 32, second.high >> 32));
 }

@@ -18,7 +18,18 @@ fn store_by_three(out: &mut [u8], q: usize, v: u64)
     store_parts(out, q, a, b, c, d);
 }
 
-// Stores 128, as far as there are bytes. The second 64 come after the first.
+// Stores 128 of three bits. The second 64 come after the first.
+fn fill_by_three(out: &mut [u8], first: u64, second: u64)
+    ensures { λ _. ⌜ StoresOnes 3 first second (now (out .exit)) ⌝ }
+{
+    store_by_three(out, 0, first);
+    if out.len() <= 24 {
+        return;
+    }
+    store_by_three(out, 24, second);
+}
+
+// Stores 128 of any width, as far as there are bytes.
 pub fn fill_ones(out: &mut [u8], width: usize, first: u64, second: u64)
     requires { ⌜ (0 < width) × (width ≤ 3) ⌝ }
     ensures { λ _. ⌜ StoresOnes width first second (now (out .exit)) ⌝ }
@@ -31,10 +42,12 @@ pub fn fill_ones(out: &mut [u8], width: usize, first: u64, second: u64)
     if width == 2 {
         store(out, 0, apart(first));
         store(out, 8, apart(first >> 32));
+        if out.len() <= 16 {
+            return;
+        }
         store(out, 16, apart(second));
         store(out, 24, apart(second >> 32));
         return;
     }
-    store_by_three(out, 0, first);
-    store_by_three(out, 24, second);
+    fill_by_three(out, first, second);
 }

@@ -218,5 +218,8 @@ pub fn fill_threes(out: &mut [u8], first: Threes, second: Threes)
     ensures { λ _. ⌜ FillsPlanes 3 first second (now (out .exit)) ⌝ }
 {
     store_threes(out, 0, first);
+    if out.len() <= 24 {
+        return;
+    }
     store_threes(out, 24, second);
 }

@@ -1,7 +1,7 @@
 use borrow.Author.Needs.{needs}
 use native.Mathlib.Omega.{arith}
 use mathlib.Core.Path.{_≡_}
-use Rattle.grid_counters.proofs.FillLaws.{singles-stored, pairs-stored}
+use Rattle.grid_counters.proofs.FillLaws.{singles-stored, half-stored, pairs-stored}
 use Rattle.grid_counters.proofs.fill.fill.Statement.{statement}
 use Rattle.grid_counters.proofs.fill.fill.Tie as tie
 
@@ -21,15 +21,27 @@ fill-spec =
     singles-stored (a .width) (a .first) (a .second) (a .out .now) (e .store .last .0) (d .store2 .last .0) (e .before .before .if1 .taken) (e .store .ensures) (d .store2 .ensures))
     -- pairs-requires, store-requires-3, pairs-requires-2, store-requires-4
     (λ c κs. search needs) (λ c κs. omega arith) (λ c κs. search needs) (λ c κs. omega arith)
-    -- pairs-requires-3, store-requires-5, pairs-requires-4, store-requires-6
-    (λ c κs. search needs) (λ c κs. omega arith) (λ c κs. search needs) (λ c κs. omega arith)
     -- same-length-2
     (λ c. search needs)
     -- returns-2
     (λ c.
+    let d2 = c .before .before .before in
+    let d1 = d2 .before .before .before .before .before .before .before in
+    let t = d1 .before .before .before in
+    let s = t .before .before in
+    let a = s .args in
+    let two : a .width ≡ 2 = omega (arith, s .pre, t .if1 .left) in
+    half-stored (a .width) (a .first) (a .second) two (d1 .before .pairs .result) (d2 .before .pairs2 .result) (a .out .now) (d1 .store3 .last .0) (d2 .store4 .last .0) (c .if2 .taken)
+    (d1 .before .pairs .ensures) (d1 .store3 .ensures) (d2 .before .pairs2 .ensures) (d2 .store4 .ensures))
+    -- pairs-requires-3, store-requires-5, pairs-requires-4, store-requires-6
+    (λ c κs. search needs) (λ c κs. omega arith) (λ c κs. search needs) (λ c κs. omega arith)
+    -- same-length-3
+    (λ c. search needs)
+    -- returns-3
+    (λ c.
     let d4 = c .before .before in
     let d3 = d4 .before .before .before .before .before .before .before in
-    let d2 = d3 .before .before .before .before .before in
+    let d2 = d3 .before .before .before .before .before .before in
     let d1 = d2 .before .before .before .before .before .before .before in
     let t = d1 .before .before .before in
     let s = t .before .before in

@@ -14,15 +14,19 @@ store-spec =
     (λ c f k e. let a = c .before .before .args in filled-past (a .q) (a .q + 8) f (a .out .now) (c .if1 .taken) k)
     -- sub-n
     (λ c. search needs)
-    -- split-requires, split-requires-2
-    (λ c κs. search needs) (λ c κs. search needs)
+    -- put-few-requires
+    (λ c κs. omega arith)
     -- same-length
     (λ c. search needs)
     -- returns-2
     (λ c f k e.
-    let a = c .before .before .before .before .before .before .before .args in
-    filled-past (a .q + (length (a .out .now) - a .q)) (a .q + 8) f (c .before .before .split .last .0) (omega (arith, c .before .out .given)) (c .before .before .split .ensures f k e))
+    let d = c .before .before in
+    let i = d .before .before in
+    let a = i .before .before .before .args in
+    filled-past (a .q + (length (a .out .now) - a .q)) (a .q + 8) f (d .put-few .last .0) (omega (arith, c .before .out .given)) (d .put-few .ensures f k (λ j l. e j (omega (arith, i .if2 .taken)))))
+    -- put-eight-requires
+    (λ c κs. omega arith)
     -- same-length-2
     (λ c. search needs)
     -- returns-3
-    (λ c. c .before .before .split2 .ensures))
+    (λ c. c .before .before .put-eight .ensures))
