@@ -14,10 +14,10 @@ use Rattle.bits.specs.Bits.{number, some, Below, numberAt}
 use Rattle.bits.proofs.TestLaws.{clash, and-right, or-neither}
 use Rattle.bits.proofs.BoundLaws.{none-below}
 use Rattle.words.proofs.LoadLaws.{number-before}
-use Rattle.calls.specs.Format.{many, Stands, isBuffer, isOver, afterNumbers, afterBuffer, table, formOf, placeOf, formEnd, isBad, callEnd, isCutShort}
+use Rattle.calls.specs.Format.{many, isBuffer, isOver, afterNumbers, afterBuffer, table, formOf, placeOf, formEnd, isBad, callEnd, isCutShort}
 use Rattle.calls.specs.Claims.{MayBeCall}
 use Rattle.calls.specs.declared.input.Form.{Form}
-use Rattle.calls.proofs.FormatLaws.{a-buffer, over-is, Small, small-form, some-buffers}
+use Rattle.calls.proofs.FormatLaws.{Stands, a-buffer, over-is, Small, small-form, some-buffers}
 use Rattle.calls.proofs.StreamLaws.{place-most, place-more}
 
 zeros : ℕ → List ℕ

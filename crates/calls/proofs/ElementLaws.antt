@@ -7,8 +7,8 @@ use lib.ListN.{length, getD, take, drop, set, length-take, length-drop}
 use lib.Seq.{getD-take, getD-drop, drop-cons, length-take-le, take-at, take-length}
 use Rattle.bits.specs.Bits.{number, list, numberAt}
 use Rattle.bits.proofs.BoundLaws.{length-list, list-getD, list-more}
-use Rattle.calls.specs.Format.{many, Stands, elements, place, Held, bufferOf}
-use Rattle.calls.proofs.FormatLaws.{held-stands}
+use Rattle.calls.specs.Format.{many, elements, place, Held, bufferOf}
+use Rattle.calls.proofs.FormatLaws.{Stands, held-stands}
 
 pub length-elements : (bs : List ℕ) (p w : ℕ) → length (elements bs p w) ≡ many bs p
 unfolding elements
@@ -19,7 +19,7 @@ unfolding numberAt number
 byte-number bs p h = rw (drop-cons bs p 0 h) (omega arith)
 
 -- elements of one byte are the bytes themselves
-pub bytes-elements : (bs : List ℕ) (p n : ℕ) → Stands bs p 1 → n ≡ many bs p → take (p + 2 + n - (p + 2)) (drop (p + 2) bs) ≡ elements bs p 1
+bytes-elements : (bs : List ℕ) (p n : ℕ) → Stands bs p 1 → n ≡ many bs p → take (p + 2 + n - (p + 2)) (drop (p + 2) bs) ≡ elements bs p 1
 unfolding elements
 bytes-elements bs p n h e =
     let m : ℕ = p + 2 + n - (p + 2) in

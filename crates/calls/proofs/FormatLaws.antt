@@ -1,4 +1,4 @@
--- Laws of what stands in the input: buffers, forms and places. Assumes nothing.
+-- Laws of what is in the input: buffers, forms and places. Assumes nothing.
 use mathlib.Core.Path.{_≡_, refl, sym, ap, ap₂, subst, transport, _∙_}
 use mathlib.Core.Bool.{Bool, true, false, not, cond, _&&_, _||_}
 use mathlib.Core.List.{List, [], _∷_}
@@ -12,11 +12,17 @@ use lib.ListN.{length, getD, List·getD-eq-default}
 use borrow.Author.Tests.{eqb-true, eqb-false, not-true, leb-true, ltb-true, ne-eqb, le-leb, lt-leb, lt-ltb}
 use Rattle.bits.specs.Bits.{some}
 use Rattle.bits.proofs.TestLaws.{clash, same-test, and-left, and-right, false-when}
-use Rattle.calls.specs.Format.{many, isBuffer, Stands, isOver, afterNumbers, afterBuffer, table, formOf, width, placeOf, place, formEnd, isBad, Found, noForm, Whole, Tagged, Held}
+use Rattle.calls.specs.Format.{many, isBuffer, isOver, afterNumbers, afterBuffer, table, formOf, width, placeOf, place, formEnd, isBad, Found, noForm, Whole, Tagged, Held}
 use Rattle.calls.specs.declared.input.Form.{Form}
 use Rattle.calls.specs.declared.input.Reach.{Reach}
 
 -- ---- buffers
+
+-- a buffer with elements of w bytes is there whole at place p
+pub record Stands (bs : List ℕ) (p w : ℕ) : Type 0 where
+  pub place : p ≡ 0 → ⊥
+  pub few : many bs p ≤ 1024
+  pub whole : p + 2 + w * many bs p ≤ length bs
 
 all-three : (a b c : Bool) → a && b && c ≡ true → (a ≡ true) × (b ≡ true) × (c ≡ true)
 all-three a b c h = let k : a && b ≡ true = and-left (a && b) c h in (and-left a b k, and-right a b k, and-right (a && b) c h)
@@ -51,7 +57,7 @@ pub over-is : (bs : List ℕ) (p : ℕ) → Over bs p → isOver bs p ≡ true
 unfolding isOver
 over-is bs p h = rw (ne-eqb p 0 (h .place), le-leb _ _ (h .said), lt-ltb _ _ (h .many))
 
--- whether so many bytes are there
+-- whether n bytes are there
 pub reaches-not : (len p n : ℕ) → len < p → false ≡ leb (p + n) len
 reaches-not len p n h = sym (lt-leb (p + n) len (omega arith))
 
@@ -59,7 +65,7 @@ pub reaches-so : (len p n : ℕ) → p ≤ len → leb n (len - p) ≡ leb (p + 
 reaches-so len p n h =
     same-test (leb n (len - p)) (leb (p + n) len) (λ e. le-leb (p + n) len (omega (arith, leb-true n (len - p) e))) (λ e. le-leb n (len - p) (omega (arith, leb-true (p + n) len e)))
 
--- the end of a buffer with n elements, by whether so many bytes are there
+-- the end of a buffer with n elements, by whether its bytes are there
 module _ (bs : List ℕ) (p w : ℕ) {n : ℕ} {t : Bool} (e : n ≡ many bs p) (k : t ≡ leb (p + (2 + w * n)) (length bs)) where
   pub buffer-cut : t ≡ false → 0 ≡ afterBuffer bs p w
   buffer-cut f =
@@ -96,7 +102,7 @@ numbers-cases bs n P f z = go (leb (1 + 8 * n) (length bs)) refl
     go true e = f (leb-true (1 + 8 * n) (length bs) e)
     go false e = z
 
--- what does not end at 0 stands there
+-- what does not end at 0 is there
 pub stands : (bs : List ℕ) (p w : ℕ) → (afterBuffer bs p w ≡ 0 → ⊥) → Stands bs p w
 stands bs p w = after-cases bs p w (λ x. (x ≡ 0 → ⊥) → Stands bs p w) (λ s _. s) (λ h. absurd (h refl))
 
@@ -200,7 +206,7 @@ pub bad-done : (bs : List ℕ) (f : Form) (tag : ℕ) {t : Bool} → f ≡ formO
 unfolding isBad
 bad-done bs f tag e h = ap (λ u. eqb (f .buffers) 0 || u) h ∙ ap (λ g. eqb (g .buffers) 0 || some (g .buffers) (λ i. isOver bs (place bs tag i))) e
 
--- where a call does not end at 0, all its numbers and buffers stand there
+-- where a call does not end at 0, all its numbers and buffers are there
 module _ (bs : List ℕ) (f : Form) where
   pub buffer-stands : (n : ℕ) → (placeOf bs f (suc n) ≡ 0 → ⊥) → Stands bs (placeOf bs f n) (getD (f .widths) n 0)
   unfolding placeOf
@@ -228,7 +234,7 @@ stands-at bs tag i h l = buffers-stand bs (formOf tag) (formOf tag .buffers) i l
 pub number-stands : (bs : List ℕ) (tag i : ℕ) → Whole bs tag → i < formOf tag .numbers → 1 + 8 * i + 8 ≤ length bs
 number-stands bs tag i h l = omega (arith, first-numbers bs (formOf tag) (formOf tag .buffers) (whole-place bs (formOf tag) h))
 
--- a buffer with elements of so many bytes is one of the call's, and stands there
+-- a buffer whose elements have bytes is one of the call's, and is there whole
 pub held-index : {bs : List ℕ} {tag i w : ℕ} → Held bs tag i (suc w) → i < formOf tag .buffers
 held-index {bs} {tag} {i} h = elim (decLt i (formOf tag .buffers)) [ yes l ↦ l | no l ↦ absurd (omega (arith, h .wide, small-form tag .past i (omega arith))) ]
 

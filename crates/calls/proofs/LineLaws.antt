@@ -14,11 +14,11 @@ use Rattle.grid_promises.proofs.OneAnswer as grid
 use Rattle.grid_promises.proofs.OneConversion.{one-convert}
 use Rattle.words.proofs.LoadLaws.{number-before}
 use Rattle.wire.proofs.TextLaws.{put-same, one-put}
-use Rattle.calls.specs.Format.{callNumber, many, Stands, elements, formOf, width, place, bufferOf, numbersOf, buffersOf, callEnd, Whole}
+use Rattle.calls.specs.Format.{callNumber, many, elements, formOf, width, place, bufferOf, numbersOf, buffersOf, callEnd, Whole}
 use Rattle.calls.specs.Text.{each, bytesText, wordsText, behind, line}
 use Rattle.calls.specs.Calls.{counts, LineBy, LineAt, LineOf, ended, pointerWrite, pointerRead, gridPlan, gridRead, gridStore, gridConvert, transfer}
 use Rattle.calls.specs.Claims.{OneLine, LineIsShort, OnePrinted}
-use Rattle.calls.proofs.FormatLaws.{stands-at, number-stands}
+use Rattle.calls.proofs.FormatLaws.{Stands, stands-at, number-stands}
 use Rattle.calls.proofs.StreamLaws.{call-within, place-more, tag-more}
 use Rattle.calls.proofs.ElementLaws.{length-elements}
 use Rattle.calls.proofs.TextLaws.{length-buffer, length-line}
@@ -56,7 +56,7 @@ module _ (bs rest : List ℕ) where
 
 -- ---- how long a line is
 
--- so many buffers of at most 1,025 elements
+-- n buffers of at most 1,025 elements
 data Sized : ℕ → List (List ℕ) → Type 0 where
   none : Sized 0 []
   bytes : {n : ℕ} {ws : List (List ℕ)} (s : List ℕ) → length s ≤ 1025 → Sized n ws → Sized (suc n) (bytesText s ∷ ws)

@@ -1,5 +1,5 @@
 -- What is done with a call: how many bytes it takes, and the line that it puts. The line is the promised answer of that very call: its numbers and buffers
--- stand in the bytes in the order of the table in docs/CALLS.md, and what the text shows is what the entry point promises of them. Assumes nothing.
+-- are in the bytes in the order of the table in docs/CALLS.md, and what the text shows is what the entry point promises of them. Assumes nothing.
 use mathlib.Core.Path.{_≡_}
 use mathlib.Core.List.{List, [], _∷_, _++_}
 use Prim.Native.Nat.{ℕ}
@@ -56,7 +56,7 @@ pub data LineBy : ℕ → List ℕ → List (List ℕ) → List ℕ → Type 0 w
       → LineBy 7 (rows ∷ columns ∷ k ∷ []) (bytes ∷ script ∷ out ∷ [])
       (line (a .number) (a .index ∷ []) (wordsText out′ ∷ bytesText numbers ∷ []))
 
--- the same of a call with this tag that stands at the front of the bytes
+-- the same of a call with this tag at the front of the bytes
 abbrev pub LineAt : List ℕ → ℕ → List ℕ → Type 0
 LineAt bs tag = LineBy tag (numbersOf bs tag) (buffersOf bs tag)
 
@@ -66,13 +66,13 @@ pub data LineOf (bs : List ℕ) : List ℕ → Type 0 where
 
 -- ---- what is done
 
--- a line was put
+-- a text was put that is such a line
 pub record PutLine (Line : List ℕ → Type 0) (before : List ℕ) (p : ℕ) (after : List ℕ) (q : ℕ) : Type 0 where
   pub text : List ℕ
   pub line : Line text
   pub put : Put text before p after q
 
--- the call at the front of the bytes, or what is none: it takes so many bytes and puts its line, or takes none and puts nothing
+-- the call at the front of the bytes takes its bytes and puts its line; what is none takes no byte and puts nothing
 pub record Printed (bs : List ℕ) (taken : ℕ) (before : List ℕ) (p : ℕ) (after : List ℕ) (q : ℕ) : Type 0 where
   pub takes : taken ≡ callEnd bs
   pub none : taken ≡ 0 → (q ≡ p) × (after ≡ before)

@@ -1,9 +1,9 @@
--- What stands in the input: numbers, buffers and calls, by the bytes from a call's first on. Places count bytes from 0; the place 0, where no number and no
--- buffer can start or end, stands for what is no call. Assumes nothing.
+-- What is in the input: numbers, buffers and calls, by the bytes from a call's first on. Places count bytes from 0; the place 0, where no number and no
+-- buffer can start or end, says that there is no call. Assumes nothing.
 use mathlib.Core.Path.{_≡_}
 use mathlib.Core.Bool.{Bool, true, cond, not, _&&_, _||_}
 use mathlib.Core.List.{List, [], _∷_}
-use Prim.Native.Nat.{ℕ, zero, suc, _+_, _*_, _≤_}
+use Prim.Native.Nat.{ℕ, zero, suc, _+_, _*_}
 use lib.Dec.{eqb, leb, ltb}
 use lib.ListN.{length, getD}
 use Rattle.bits.specs.Bits.{some, list, numberAt}
@@ -27,19 +27,13 @@ afterNumbers bs n = cond (leb (1 + 8 * n) (length bs)) (1 + 8 * n) 0
 abbrev pub many : List ℕ → ℕ → ℕ
 many bs p = numberAt bs p 2
 
--- a buffer with elements of w bytes stands at place p whole, and has at most 1024 of them
+-- a buffer with elements of w bytes is there whole at place p, and has at most 1024 of them
 unfoldable pub isBuffer : List ℕ → ℕ → ℕ → Bool
 isBuffer bs p w = not (eqb p 0) && leb (many bs p) 1024 && leb (p + 2 + w * many bs p) (length bs)
 
 -- where it ends
 unfoldable pub afterBuffer : List ℕ → ℕ → ℕ → ℕ
 afterBuffer bs p w = cond (isBuffer bs p w) (p + 2 + w * many bs p) 0
-
--- so it stands there
-pub record Stands (bs : List ℕ) (p w : ℕ) : Type 0 where
-  pub place : p ≡ 0 → ⊥
-  pub few : many bs p ≤ 1024
-  pub whole : p + 2 + w * many bs p ≤ length bs
 
 -- it says how many elements it has, and they are too many: whatever follows, it is no buffer
 unfoldable pub isOver : List ℕ → ℕ → Bool
@@ -90,7 +84,7 @@ place bs tag i = placeOf bs (formOf tag) i
 unfoldable pub formEnd : List ℕ → Form → ℕ
 formEnd bs f = cond (eqb (f .buffers) 0) 0 (placeOf bs f (f .buffers))
 
--- no call of this form can stand there, whatever follows: it is the form of no call, or a buffer has too many elements
+-- there is no call of this form, whatever follows: it is the form of no call, or a buffer has too many elements
 unfoldable pub isBad : List ℕ → Form → Bool
 isBad bs f = eqb (f .buffers) 0 || some (f .buffers) (λ i. isOver bs (placeOf bs f i))
 
@@ -99,20 +93,21 @@ pub record Found (bs : List ℕ) (f : Form) (i : ℕ) (r : Reach) : Type 0 where
   pub at : r .at ≡ placeOf bs f i
   pub over : r .over ≡ some i (λ j. isOver bs (placeOf bs f j))
 
--- a call with this tag stands there whole
+-- a call with this tag is there whole
 abbrev pub Whole : List ℕ → ℕ → Type 0
 Whole bs tag = formEnd bs (formOf tag) ≡ 0 → ⊥
 
--- and the tag is t; or its buffer i has elements of w bytes
+-- and its tag is t
 pub record Tagged (bs : List ℕ) (tag t : ℕ) : Type 0 where
   pub is : tag ≡ t
   pub whole : Whole bs tag
 
+-- and its buffer i has elements of w bytes
 pub record Held (bs : List ℕ) (tag i w : ℕ) : Type 0 where
   pub wide : width tag i ≡ w
   pub whole : Whole bs tag
 
--- the elements of its buffer i
+-- the elements of buffer i of a call
 unfoldable pub bufferOf : List ℕ → ℕ → ℕ → List ℕ
 bufferOf bs tag i = elements bs (place bs tag i) (width tag i)
 
@@ -123,11 +118,11 @@ numbersOf bs tag = list (formOf tag .numbers) (callNumber bs)
 abbrev pub buffersOf : List ℕ → ℕ → List (List ℕ)
 buffersOf bs tag = list (formOf tag .buffers) (bufferOf bs tag)
 
--- where the call ends that stands at the front of the bytes
+-- where the call at the front of the bytes ends
 abbrev pub callEnd : List ℕ → ℕ
 callEnd bs = formEnd bs (formOf (getD bs 0 0))
 
--- the call at the front of the bytes is cut short: it does not stand there whole, but may with bytes that follow
+-- the call at the front of the bytes is cut short: it is not there whole, but may be with bytes that follow
 unfoldable pub isCutShort : List ℕ → Bool
 isCutShort [] = true
 isCutShort (tag ∷ bs) = eqb (callEnd (tag ∷ bs)) 0 && not (isBad (tag ∷ bs) (formOf tag))

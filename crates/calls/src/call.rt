@@ -18,7 +18,7 @@ use crate::print::put_end;
 use crate::print::put_words;
 use crate::script;
 
-// A script has at most so many steps: the first start, and one for each of its bytes.
+// A script has no more steps: the first start, and one for each of its bytes.
 const MOST_STEPS: usize = MOST_ELEMENTS + 1;
 
 // How many bytes the call takes, 0 where it is none, and where its line ends.

@@ -1,4 +1,4 @@
-// Numbers and buffers as they stand in the input.
+// Numbers and buffers of a call, from the bytes of the input.
 ghost use mathlib.Core.Path.{_≡_};
 ghost use Prim.Native.Nat.{_+_, _*_, _≤_};
 ghost use lib.Dec.{leb};
@@ -6,7 +6,7 @@ ghost use lib.ListN.{length};
 ghost use Rattle.calls.specs.Format.{callNumber, sizesOf, afterNumbers, afterBuffer, isOver, form, formOf, place, formEnd, isBad, Found, Held, bufferOf};
 use words::number_at;
 
-// A buffer of a call may have so many elements.
+// A buffer of a call has no more elements.
 pub const MOST_ELEMENTS: usize = 1024;
 
 // A call's number i, from 0 on.
@@ -119,7 +119,7 @@ pub struct Reach {
     pub over: bool,
 }
 
-// Where buffer i of a call with this tag starts, or the call ends where i is their number; 0 where it does not stand there whole up to there.
+// Where buffer i of a call with this tag starts, or the call ends where i is their number; 0 where the call is not there up to that place.
 fn find(s: &[u8], tag: u8, i: usize) -> Reach
     requires { ⌜ i ≤ 5 ⌝ }
     ensures { λ r. ⌜ Found (now (s .entry)) (formOf tag) i r ⌝ }
@@ -144,7 +144,7 @@ fn place(s: &[u8], tag: u8, i: usize) -> usize
     found.at
 }
 
-// Where a call with this tag ends, 0 where none stands there.
+// Where a call with this tag ends, 0 where there is none.
 pub fn call_end(s: &[u8], tag: u8) -> usize
     ensures { λ r. ⌜ r ≡ formEnd (now (s .entry)) (formOf tag) ⌝ }
 {
@@ -155,7 +155,7 @@ pub fn call_end(s: &[u8], tag: u8) -> usize
     place(s, tag, f.buffers)
 }
 
-// Whether no call with this tag can stand there, whatever follows.
+// Whether there is no call with this tag, whatever follows.
 pub fn is_bad(s: &[u8], tag: u8) -> bool
     ensures { λ r. ⌜ r ≡ isBad (now (s .entry)) (formOf tag) ⌝ }
 {

@@ -7,7 +7,7 @@ use crate::input::Sizes;
 use fragment_promises::Transfer;
 use grid_promises::ReadAnswer;
 
-// A script's byte for a new start, and the one for a finish. A lower one is a lump of so many bytes.
+// A script's byte for a new start, and the one for a finish. A lower one is the size of a lump.
 const START: u8 = 254;
 
 const FINISH: u8 = 255;
@@ -19,7 +19,7 @@ pub struct Left {
     pub transfer: Transfer,
 }
 
-// How many bytes a lump of so many has: all that are left where they are fewer.
+// How many bytes a lump has: as many as are wanted, or all that are left where they are fewer.
 fn lump_size(wanted: u8, left: usize) -> usize
     ensures { λ r. ⌜ r ≡ min wanted left ⌝ }
 {
