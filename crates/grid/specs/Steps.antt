@@ -46,7 +46,7 @@ pub record Rows (d mask values : List ℕ) : Type 0 where
 abbrev pub subgrid : Sub → Subgrid
 subgrid s = record { rows = s .rows; columns = s .columns }
 
--- the rows and columns that hold a wrong cell
+-- what the first level takes: the rows and columns that hold a wrong cell
 abbrev pub firstOf : First → Subgrid
 firstOf f = record { rows = f .rows; columns = f .columns }
 
@@ -66,7 +66,7 @@ abbrev pub Follows : ℕ → ℕ → List ℕ → List ℕ → List ℕ → List
 Follows k at rows₀ columns₀ rows′ columns′ u (masked l r c) = Counts k at rows₀ columns₀ rows′ columns′ u l r c
 Follows k at rows₀ columns₀ rows′ columns′ u unmaskable = u ≡ suc k
 
--- at most k levels, of which the first takes t in the sense w, whatever subgrid s of however many columns it takes it of
+-- u levels, where k are allowed, of which the first takes t in the sense w: for every subgrid s, of any number of columns, of which t is what is taken
 pub record Planned (d mask values : List ℕ) (t : Subgrid) (w : Bool) (k at : ℕ) (rows₀ columns₀ rows′ columns′ : List ℕ) (u : ℕ) : Type 0 where
   pub few : u ≤ suc k
   pub follows : (n : ℕ) (s : Subgrid) → t ≡ taken (blockOf n d mask values) w s → Follows k at rows₀ columns₀ rows′ columns′ u (levels (blockOf n d mask values) k w s)
