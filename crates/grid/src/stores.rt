@@ -21,7 +21,7 @@ pub fn misreads(inverted: &[u64], mask: &[u64], values: &[u64]) -> bool
     wrong != 0
 }
 
-// The answer with these levels. The cells are counted in the rows that hold a stuck one: they are few.
+// The answer that accepts with these levels. The cells are counted in the rows that hold a stuck one: they are few.
 pub fn counted(levels: usize, data: &[u64], mask: &[u64], values: &[u64]) -> Answer
     requires { ⌜ Rows (now «data») (now mask) (now values) ⌝ }
     ensures { λ r. ⌜ Accepts (now («data» .entry)) (now (mask .entry)) (now (values .entry)) levels r ⌝ }

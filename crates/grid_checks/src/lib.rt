@@ -109,7 +109,7 @@ pub fn within(words: &[u64], columns: usize) -> bool
     columns >= words::BITS || joined(words) < 1 << columns
 }
 
-// The OR of the words of three buffers that are as long, in one pass.
+// The OR of the words of three buffers of one length, in one pass.
 fn joined_in_one_pass(data: &[u64], mask: &[u64], values: &[u64]) -> u64
     requires { ⌜ (length (now mask) ≡ length (now «data»)) × (length (now values) ≡ length (now «data»)) ⌝ }
     ensures { λ r. ⌜ ((n : ℕ) → leb (2 ^ n) r ≡ (past n (now («data» .entry)) || (past n (now (mask .entry)) || past n (now (values .entry))))) ⌝ }
@@ -123,7 +123,7 @@ fn joined_in_one_pass(data: &[u64], mask: &[u64], values: &[u64]) -> u64
     all
 }
 
-// The same of any three.
+// The same of any three buffers.
 fn joined_three(data: &[u64], mask: &[u64], values: &[u64]) -> u64
     ensures { λ r. ⌜ ((n : ℕ) → leb (2 ^ n) r ≡ (past n (now («data» .entry)) || (past n (now (mask .entry)) || past n (now (values .entry))))) ⌝ }
 {

@@ -127,7 +127,7 @@ pub fn clear(out: &mut [u8])
     }
 }
 
-// Those of one level: 1 for the lines that it took. The sets may have lines past the last.
+// Those of one level: 1 for each line that it took. The sets may have lines past the last.
 fn pack_one(
     width: usize,
     rows: usize,

@@ -23,7 +23,7 @@ use Rattle.grid_promises.proofs.RefusalLaws.{in-range, plan-sized}
 use Rattle.grid_promises.proofs.PlanDemands.{plan-demands}
 use Rattle.grid_checks.specs.Numbers.{judged, planJudged}
 use Rattle.grid_levels.specs.Steps.{blockOf, PlanSized, firstOf, Counts, Follows, Planned, Refuses, Accepts, answerOf, Begins}
-use Rattle.grid_levels.specs.declared.levels.First.{First}
+use Rattle.grid_levels.specs.declared.levels.FirstLevel.{FirstLevel}
 use Rattle.grid_levels.proofs.DescendLaws.{planned-none}
 use Rattle.grid_levels.proofs.Returns.{stands, passes, mask-inside}
 
@@ -104,7 +104,7 @@ module _ (n k : ℕ) (d mask values counters : List ℕ) (s : PlanSized n k d ma
   unfolding planNumber
   plan-past h r = refused-plan own k counters a 3 (λ z. omega arith) (rw (s .ranges, lengths-right, h)) r
 
-  module _ (inside : planPast own ≡ false) (f : First) (b : Begins d mask values f) where
+  module _ (inside : planPast own ≡ false) (f : FirstLevel) (b : Begins d mask values f) where
     -- it accepts, and the counts are those of the first pass
     counts-right : (u : ℕ) → a ≡ answerOf u (f .faults) (f .wrong) → Accepts d mask values u a
     counts-right u e = subst (Accepts d mask values u) (sym e) (b .accepts u)

@@ -12,7 +12,7 @@ use Rattle.grid_sets.specs.Sets.{times}
 use Rattle.grid_promises.specs.Calls.{block, inRange}
 use Rattle.grid_promises.specs.Demands.{CountsNothing, CountsKinds}
 use Rattle.grid_promises.specs.declared.Answer.{Answer}
-use Rattle.grid_levels.specs.declared.levels.First.{First}
+use Rattle.grid_levels.specs.declared.levels.FirstLevel.{FirstLevel}
 use Rattle.grid_levels.specs.declared.levels.Sub.{Sub}
 
 -- the block of three slices of words, as one of n columns
@@ -35,8 +35,8 @@ pub record Rows (d mask values : List ℕ) : Type 0 where
 abbrev pub subgrid : Sub → Subgrid
 subgrid s = record { rows = s .rows; columns = s .columns }
 
--- the rows and columns that hold a wrong cell
-abbrev pub firstOf : First → Subgrid
+-- what the first level takes: the rows and columns that hold a wrong cell
+abbrev pub firstOf : FirstLevel → Subgrid
 firstOf f = record { rows = f .rows; columns = f .columns }
 
 -- t is what a level takes of the subgrid s in the sense w, whatever number of columns holds s
@@ -44,7 +44,7 @@ pub record Takes (d mask values : List ℕ) (s : Subgrid) (w : Bool) (t : Subgri
   pub few : t .rows < 2 ^ length d
   pub taken· : (n : ℕ) → s .columns < 2 ^ n → t ≡ taken (blockOf n d mask values) w s
 
--- of u levels, at most k, the sets stand from place `at` on, and raise what the places before them count by the counters of an outcome
+-- of u levels, at most k, the sets are at the places from `at` on, and raise what the places before them count by the counters of an outcome
 pub record Counts (k at : ℕ) (rows₀ columns₀ rows′ columns′ : List ℕ) (u l : ℕ) (r c : ℕ → ℕ) : Type 0 where
   pub few : u ≤ k
   pub used : u ≡ l
@@ -55,7 +55,7 @@ abbrev pub Follows : ℕ → ℕ → List ℕ → List ℕ → List ℕ → List
 Follows k at rows₀ columns₀ rows′ columns′ u (masked l r c) = Counts k at rows₀ columns₀ rows′ columns′ u l r c
 Follows k at rows₀ columns₀ rows′ columns′ u unmaskable = u ≡ suc k
 
--- at most k levels, of which the first takes t in the sense w, whatever subgrid s of however many columns it takes it of
+-- u levels, where k are allowed, of which the first takes t in the sense w: for every subgrid s, of any number of columns, of which t is what is taken
 pub record Planned (d mask values : List ℕ) (t : Subgrid) (w : Bool) (k at : ℕ) (rows₀ columns₀ rows′ columns′ : List ℕ) (u : ℕ) : Type 0 where
   pub few : u ≤ suc k
   pub follows : (n : ℕ) (s : Subgrid) → t ≡ taken (blockOf n d mask values) w s → Follows k at rows₀ columns₀ rows′ columns′ u (levels (blockOf n d mask values) k w s)
@@ -81,7 +81,7 @@ abbrev pub answerOf : ℕ → ℕ → ℕ → Answer
 answerOf l f w = record { number = 0; levels = l; faults = f; wrong = w; right = f - w; index = 0 }
 
 -- what the first pass over the stuck cells finds: the counts of an answer, and what the first level takes, whatever number of columns holds the mask
-pub record Begins (d mask values : List ℕ) (f : First) : Type 0 where
+pub record Begins (d mask values : List ℕ) (f : FirstLevel) : Type 0 where
   pub few : f .rows < 2 ^ length d
   pub least : f .wrong ≤ f .faults
   pub accepts : (l : ℕ) → Accepts d mask values l (answerOf l (f .faults) (f .wrong))

@@ -9,15 +9,15 @@ ghost use lib.ListN.{length};
 ghost use Rattle.grid_levels.specs.Steps.{Rows, subgrid, Takes, Planned, Begins};
 
 // How many cells are stuck, how many of them wrong, and the rows and columns that the first level takes.
-pub struct First {
+pub struct FirstLevel {
     pub faults: usize,
     pub wrong: usize,
     pub rows: u64,
     pub columns: u64,
 }
 
-// The counts and the first level, in one pass over the rows that hold a stuck cell.
-pub fn first_level(data: &[u64], mask: &[u64], values: &[u64]) -> First
+// Counts the stuck cells, and finds what the first level takes, in one pass over the rows that hold a stuck cell.
+pub fn first_level(data: &[u64], mask: &[u64], values: &[u64]) -> FirstLevel
     requires { ⌜ Rows (now «data») (now mask) (now values) ⌝ }
     ensures { λ r. ⌜ Begins (now («data» .entry)) (now (mask .entry)) (now (values .entry)) r ⌝ }
 {
@@ -35,7 +35,7 @@ pub fn first_level(data: &[u64], mask: &[u64], values: &[u64]) -> First
         rows = mark_if(w != 0, i) | rows;
         rest = rest & (rest - 1);
     }
-    First {
+    FirstLevel {
         faults,
         wrong,
         rows,
@@ -74,8 +74,8 @@ fn take_level(
     Sub { rows, columns }
 }
 
-// The levels from one on that takes these rows and columns: the same question is asked again of them, in the other sense. How many there are, one more than
-// allowed where they do not end; the sets that they take go into two arrays, from `at` on.
+// The levels from here on, of which the first takes these rows and columns; of them the same question is asked again, in the other sense. It answers how many
+// levels there are, one more than allowed where they do not end, and keeps the sets that they take in two arrays, from `at` on.
 pub fn descend(
     data: &&[u64],
     mask: &&[u64],

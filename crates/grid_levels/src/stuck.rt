@@ -32,7 +32,7 @@ fn bits_of_four(words: &[u64], i: usize) -> u64
             | (mark_if(words[i + 1] != 0, 1) | mark_if(words[i] != 0, 0)))
 }
 
-// The rows that hold a stuck cell: from the last on, eight at a time once the others are done.
+// The rows that hold a stuck cell, from the last to the first: one by one down to a multiple of eight, then eight at a time.
 pub fn stuck_rows(mask: &[u64]) -> u64
     requires { ⌜ length (now mask) ≤ 64 ⌝ }
     ensures { λ r. ⌜ r ≡ word (length (now (mask .entry))) (λ i. not (eqb (getD (now (mask .entry)) i 0) 0)) ⌝ }
