@@ -8,7 +8,7 @@ use native.Mathlib.Omega.{arith}
 use borrow.Author.Tests.{le-leb}
 use lib.Dec.{leb}
 use lib.ListN.{length, getD, take, drop, set}
-use lib.Seq.{paste, paste-zero, paste-suc, take-length}
+use lib.Seq.{paste, paste-zero, paste-suc, take-length, take-take}
 use Rattle.bits.specs.Bits.{number, numberAt}
 use Rattle.bits.proofs.BoundLaws.{length-list, list-more}
 use Rattle.rdis.specs.Packing.{width, bytesFor}
@@ -88,6 +88,11 @@ judged-lump t j bs room d = go d
         subst ends (sym e) (subst (λ v. Lump t bs (record { number = 9; transfer = v })) (partly-none (noted t) (t .taken) bs) (lump-refused t bs room z l))
 
 -- ---- the words of a block
+
+-- eight bytes cut out by themselves
+pub cut-out : (q n : ℕ) (bs : List ℕ) → 8 ≤ n → numberAt (take n (drop q bs)) 0 8 ≡ numberAt bs q 8
+unfolding numberAt
+cut-out q n bs l = ap (number 256) (take-take 8 n (drop q bs) l)
 
 pub one-word-more : (c i v : ℕ) (bs xs : List ℕ) → i < length xs → take i xs ≡ wordsFrom c i bs → v ≡ numberAt bs (c + 8 * i) 8
     → take (i + 1) (set xs i v) ≡ wordsFrom c (i + 1) bs

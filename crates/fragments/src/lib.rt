@@ -139,15 +139,17 @@ fn unfinished(rows: usize, columns: usize, k: usize, taken: usize, out: usize) -
     ACCEPTED
 }
 
-// The first `count` words of 8 bytes, from byte `from` on, and 0 after them.
+// The first `count` words of 8 bytes, from byte `from` on, and 0 after them. Eight bytes are cut out by themselves: the compiler then makes one load of them.
 fn words_from(bytes: &[u8], from: usize, count: usize) -> [u64; LINES]
-    requires { ⌜ (count ≤ 64) × (from ≤ 48) ⌝ }
+    requires { ⌜ (count ≤ 64) × (from ≤ 48) × (from + 8 * count ≤ length (now bytes)) ⌝ }
     ensures { λ r. ⌜ take count r ≡ wordsFrom from count (now (bytes .entry)) ⌝ }
 {
     let mut all = [0u64; LINES];
     let mut i = 0;
     while i < count {
-        all[i] = words::load(bytes, from + 8 * i);
+        let at = from + 8 * i;
+        let end = at + 8;
+        all[i] = words::load(&bytes[at..end], 0);
         i += 1;
     }
     all

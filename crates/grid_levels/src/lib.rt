@@ -50,7 +50,7 @@ pub fn refused(number: usize, index: usize) -> Answer
     }
 }
 
-// It accepts with these levels, where so many cells are stuck and so many of them wrong for the data.
+// The answer that accepts with these levels, where `faults` cells are stuck, and `wrong` of them wrong for the data.
 fn accepted(levels: usize, faults: usize, wrong: usize) -> Answer
     requires { ⌜ wrong ≤ faults ⌝ }
     ensures { λ r. ⌜ r ≡ answerOf levels faults wrong ⌝ }

@@ -21,7 +21,7 @@ read-whole-spec =
     (λ c κs. search needs)
     -- words-from-requires
     (λ c κs. let s = c .before .before .before in let a = s .args in
-    (s .pre .0 .rows .1, omega (arith, c .counter-bytes .ensures, longest-counters (a .rows) (a .columns) (a .k) (s .pre .0))))
+    (s .pre .0 .rows .1, omega (arith, c .counter-bytes .ensures, longest-counters (a .rows) (a .columns) (a .k) (s .pre .0)), omega (arith, long c)))
     -- array-share-prefix-cells
     (λ c. search needs)
     -- slice-aggregate-read

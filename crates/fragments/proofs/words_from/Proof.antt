@@ -1,11 +1,11 @@
-use Prim.Native.Nat.{_≤_, _-_}
+use Prim.Native.Nat.{_≤_, _+_, _-_, _*_}
 use mathlib.Core.Path.{_≡_, refl, ap, sym, _∙_}
 use native.Mathlib.Omega.{arith}
 use borrow.Author.Needs.{needs}
 use lib.ListN.{length, take, length-set}
 use Rattle.bits.specs.Bits.{list}
 use Rattle.fragment_promises.specs.Transfers.{wordsFrom}
-use Rattle.fragments.proofs.CodeLaws.{one-word-more}
+use Rattle.fragments.proofs.CodeLaws.{one-word-more, cut-out}
 use Rattle.fragments.proofs.words_from.Statement.{statement}
 use Rattle.fragments.proofs.words_from.Tie as tie
 
@@ -23,11 +23,21 @@ words-from-spec =
     μ-loop
     -- loop-holds
     (λ c. (omega arith, refl, unfold wordsFrom list in refl))
-    -- mul-load, add-load, load-requires, mul-all, array-write-all, add-i, loop-less
-    (λ c. omega arith) (λ c. omega arith) (λ c κs. search needs) (λ c. omega arith) (λ c. omega arith) (λ c. omega arith) (λ c. omega arith)
+    -- mul-at, add-at, add-end, sub-load
+    (λ c. omega arith) (λ c. omega arith) (λ c. omega arith) (λ c. omega arith)
+    -- part-load-start, part-load-end, load-requires
+    (λ c. omega arith) (λ c. omega arith) (λ c κs. search needs)
+    -- mul-all, array-write-all, add-i, loop-less
+    (λ c. omega arith) (λ c. omega arith) (λ c. omega arith) (λ c. omega arith)
     -- loop-again
-    (λ c. let l = c .before .before .loop in let a = c .before .before .before .before .args in
-    (omega arith, simp length-set (l .inv .1), one-word-more (a .from) (l .i) (c .load .result) (a .bytes .now) (l .all) (omega arith) (l .inv .2) (c .load .ensures)))
+    (λ c.
+    let l = c .before .before .before .loop in
+    let a = c .before .before .before .before .before .args in (
+      omega arith,
+      simp length-set (l .inv .1),
+      one-word-more (a .from) (l .i) (c .load .result) (a .bytes .now) (l .all) (omega arith) (l .inv .2)
+          (c .load .ensures ∙ cut-out (a .from + 8 * l .i) (a .from + 8 * l .i + 8 - (a .from + 8 * l .i)) (a .bytes .now) (omega arith)),
+    ))
     -- returns
     (λ c. let l = c .before .loop in let a = c .before .before .before .args in
     let e : l .i ≡ a .count = omega arith in
