@@ -9,15 +9,10 @@ use lib.ListN.{length, getD}
 use Rattle.bits.specs.Bits.{some, list, numberAt}
 use Rattle.calls.specs.declared.input.Form.{Form}
 use Rattle.calls.specs.declared.input.Reach.{Reach}
-use Rattle.calls.specs.declared.input.Sizes.{Sizes}
 
 -- number i of a call, from 0 on: they follow the tag, eight bytes each
 abbrev pub callNumber : List ℕ → ℕ → ℕ
 callNumber bs i = numberAt bs (1 + 8 * i) 8
-
--- a grid's rows and columns and its K: the first three
-abbrev pub sizesOf : List ℕ → Sizes
-sizesOf bs = record { rows = callNumber bs 0; columns = callNumber bs 1; k = callNumber bs 2 }
 
 -- where a call's n numbers end, that follow the tag
 unfoldable pub afterNumbers : List ℕ → ℕ → ℕ

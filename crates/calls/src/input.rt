@@ -1,9 +1,11 @@
 // Numbers and buffers of a call, from the bytes of the input.
 ghost use mathlib.Core.Path.{_≡_};
+ghost use mathlib.Core.List.{[], _∷_};
 ghost use Prim.Native.Nat.{_+_, _*_, _≤_};
 ghost use lib.Dec.{leb};
 ghost use lib.ListN.{length};
-ghost use Rattle.calls.specs.Format.{callNumber, sizesOf, afterNumbers, afterBuffer, isOver, form, formOf, place, formEnd, isBad, Found, Held, bufferOf};
+ghost use Rattle.bits.specs.Bits.{list};
+ghost use Rattle.calls.specs.Format.{callNumber, afterNumbers, afterBuffer, isOver, form, formOf, place, formEnd, isBad, Found, Held, bufferOf};
 use words::number_at;
 
 // A buffer of a call has no more elements.
@@ -26,7 +28,7 @@ pub struct Sizes {
 
 // A call's first three numbers.
 pub fn call_sizes(s: &[u8]) -> Sizes
-    ensures { λ r. ⌜ r ≡ sizesOf (now (s .entry)) ⌝ }
+    ensures { λ r. ⌜ r .rows ∷ r .columns ∷ r .k ∷ [] ≡ list 3 (callNumber (now (s .entry))) ⌝ }
 {
     Sizes {
         rows: call_number(s, 0),

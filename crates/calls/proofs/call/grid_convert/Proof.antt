@@ -1,4 +1,4 @@
-use mathlib.Core.List.{[], _∷_}
+use mathlib.Core.List.{[], _∷_, _++_}
 use lib.Dec.{lit≤}
 use borrow.Author.Needs.{needs}
 use Rattle.bits.specs.Bits.{list}
@@ -25,8 +25,7 @@ grid-convert-spec =
     (λ c.
     let m = c .before .before .before .before .before .before .before .before .before .before .before .before .before in
     let e = m .before .before in
-    let z = e .before .before .before .before .call-sizes .ensures in
     put-made (e .before .before .before .before .before .before .before .pre) (gridConvert (m .convert .ensures) (m .convert .kept .1 .1 .1 .1 .1 .0))
-    (λ i. z i .rows ∷ z i .columns ∷ z i .k ∷ e .before .before .before .call-number .ensures i ∷ [])
+    (λ i. e .before .before .before .before .call-sizes .ensures i ++ (e .before .before .before .call-number .ensures i ∷ []))
     (λ i. e .before .before .elements .ensures i ∷ e .load-bytes .ensures i ∷ [])
     (put-next _ _ _ (c .before .before .before .before .before .before .before .before .put-answer .ensures) (c .before .before .before .put-bytes .ensures))))

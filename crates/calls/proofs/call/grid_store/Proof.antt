@@ -1,4 +1,3 @@
-use mathlib.Core.Path.{ap}
 use mathlib.Core.List.{[], _∷_}
 use lib.Dec.{lit≤}
 use borrow.Author.Needs.{needs}
@@ -7,7 +6,7 @@ use Rattle.calls.specs.Format.{table, formOf}
 use Rattle.calls.specs.Calls.{gridStore}
 use Rattle.calls.proofs.FormatLaws.{held}
 use Rattle.calls.proofs.TextLaws.{put-next}
-use Rattle.calls.proofs.CallLaws.{listed, put-made}
+use Rattle.calls.proofs.CallLaws.{put-made}
 use Rattle.calls.proofs.call.grid_store.Statement.{statement}
 use Rattle.calls.proofs.call.grid_store.Tie as tie
 
@@ -30,6 +29,6 @@ grid-store-spec =
     let m = c .before .before .before .before .before .before .before .before .before .before .before .before .before .before .before .before in
     let e = m .before .before .before .before .before in
     put-made (e .before .before .before .before .before .before .before .before .before .before .before .before .pre) (gridStore (m .store .ensures) (m .store .kept .1 .1 .1 .1 .1 .1 .1 .0))
-    (ap listed (e .before .before .before .before .before .before .before .before .before .call-sizes .ensures))
+    (e .before .before .before .before .before .before .before .before .before .call-sizes .ensures)
     (λ i. e .before .before .before .before .before .before .before .load-words .ensures i ∷ e .before .before .before .before .before .load-words2 .ensures i ∷ e .before .before .before .load-words3 .ensures i ∷ e .before .before .elements .ensures i ∷ e .load-words4 .ensures i ∷ [])
     (put-next _ _ _ (c .before .before .before .before .before .before .before .before .put-answer .ensures) (c .before .before .before .put-words .ensures))))

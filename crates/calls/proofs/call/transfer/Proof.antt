@@ -1,4 +1,3 @@
-use mathlib.Core.Path.{ap}
 use mathlib.Core.List.{[], _∷_}
 use lib.Dec.{lit≤}
 use native.Mathlib.Omega.{arith}
@@ -9,7 +8,7 @@ use Rattle.calls.specs.Calls.{transfer}
 use Rattle.calls.proofs.FormatLaws.{held}
 use Rattle.calls.proofs.ElementLaws.{few-of}
 use Rattle.calls.proofs.TextLaws.{put-next}
-use Rattle.calls.proofs.CallLaws.{listed, put-made}
+use Rattle.calls.proofs.CallLaws.{put-made}
 use Rattle.calls.proofs.call.transfer.Statement.{statement}
 use Rattle.calls.proofs.call.transfer.Tie as tie
 
@@ -31,6 +30,6 @@ transfer-spec =
     let m = c .before .before .before .before .before .before .before .before .before .before .before .before .before .before .before .before .before .before .before .before .before in
     let e = m .before .before .before .before .before in
     put-made (e .before .before .before .before .before .before .before .pre) (transfer (m .run .ensures))
-    (ap listed (e .before .before .before .before .call-sizes .ensures))
+    (e .before .before .before .before .call-sizes .ensures)
     (λ i. e .before .before .before .elements .ensures i ∷ e .before .before .elements2 .ensures i ∷ e .load-words .ensures i ∷ [])
     (put-next _ _ _ (put-next _ _ _ (c .before .before .before .before .before .before .before .before .before .before .before .before .before .before .put-answer .ensures) (c .before .before .before .before .before .before .before .before .before .put-words .ensures)) (c .before .before .before .put-bytes .ensures))))
