@@ -14,6 +14,10 @@ use Rattle.cases.specs.Table.{Row, old, G2, G3, G5, storeSmall, planned,
 abbrev pub zeroWrite : ℕ → List ℕ → List ℕ → List ℕ → Call
 zeroWrite n mask values m = pointerWrite n (ones []) (ones mask) (ones values) old m
 
+-- a write of a 1 to position p alone, whose cell alone is stuck
+abbrev pub stuckWrite : ℕ → ℕ → List ℕ → List ℕ → Call
+stuckWrite n p values m = pointerWrite n (ones (p ∷ [])) (ones (p ∷ [])) (ones values) old m
+
 -- accepted: the active entries and the new ones, the positions whose cells hold a 1, and the metadata
 abbrev pub wrote : ℕ → ℕ → List ℕ → List ℕ → Line
 wrote active new cells m = record { numbers = 0 ∷ active ∷ new ∷ []; buffers = ones cells ∷ m ∷ [] }
@@ -39,6 +43,13 @@ rowEdges =
     ∷ record { call = pointerWrite 2 (ones (5 ∷ [])) (ones []) (ones []) old (0x0A ∷ 0x08 ∷ 0x00 ∷ []); expected = wrote 1 0 (5 ∷ []) (0x0A ∷ 0x0C ∷ 0x00 ∷ []) }
     -- it keeps its place: it names 300, and the new entry after it 3. Two are active, and one of them is new
     ∷ record { call = zeroWrite 2 (3 ∷ []) (3 ∷ []) (0x58 ∷ 0x0A ∷ 0x00 ∷ []); expected = wrote 2 1 (3 ∷ []) (0x59 ∷ 0x1A ∷ 0x00 ∷ []) }
+    -- two of them keep their order, which need not rise: the first names 300, the second 3
+    ∷ record { call = zeroWrite 3 [] [] (0x58 ∷ 0x1A ∷ 0x60 ∷ 0x00 ∷ []); expected = wrote 2 0 [] (0x58 ∷ 0x1A ∷ 0x60 ∷ 0x00 ∷ []) }
+    -- it stays though its cell is stuck at the right value, and takes the new data bit
+    ∷ record { call = stuckWrite 2 5 (5 ∷ []) (0x0A ∷ 0x08 ∷ 0x00 ∷ []); expected = wrote 1 0 (5 ∷ []) (0x0A ∷ 0x0C ∷ 0x00 ∷ []) }
+    -- of data 1: a cell stuck at 0 holds 0 and gets an entry, a cell stuck at 1 gets none
+    ∷ record { call = stuckWrite 1 3 [] (0 ∷ 0 ∷ []); expected = wrote 1 1 [] (0x07 ∷ 0x04 ∷ []) }
+    ∷ record { call = stuckWrite 1 3 (3 ∷ []) (0 ∷ 0 ∷ []); expected = wrote 0 0 (3 ∷ []) (0 ∷ 0 ∷ []) }
     -- an entry between the last active one and the last is 0
     ∷ record { call = zeroWrite 3 (3 ∷ []) (3 ∷ []) (0 ∷ 0 ∷ 0 ∷ 0 ∷ []); expected = wrote 1 1 (3 ∷ []) (0x06 ∷ 0x00 ∷ 0x20 ∷ 0x00 ∷ []) }
     -- n may be 10, and nine ones fill the field in which the last entry counts; so many are read back

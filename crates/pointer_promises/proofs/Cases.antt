@@ -5,7 +5,7 @@ use mathlib.Core.Bool.{true, xor}
 use mathlib.Core.List.{List, [], _∷_, _++_}
 use lib.ListN.{replicate}
 use Rattle.bits.specs.Bits.{some, sum, list, has, word, words, at, bytes}
-use Rattle.pointer_promises.specs.Pointer.{entryOf, entry, spare, active, unary, idle, formed, held, names, repeats, unserved, positions, renewed, after, activeAfter, slot, metadataBit, encode, measured, verdict, readNumber, needed, writeJudged, writeNumber}
+use Rattle.pointer_promises.specs.Pointer.{entryOf, entry, spare, active, unary, idle, formed, held, names, repeats, unserved, positions, renewed, after, activeAfter, stored, slot, metadataBit, encode, measured, verdict, readNumber, needed, writeJudged, writeNumber}
 
 abbrev zeros : ℕ → List ℕ
 zeros n = replicate n 0
@@ -124,3 +124,26 @@ unserveds = refl
 pub no-entry-last : writeNumber 2 (zeros 64) (8 ∷ zeros 63) (8 ∷ zeros 63) 64 (0x01 ∷ 0x00 ∷ 0x00 ∷ []) ≡ 5
 unfolding xor some sum list has word at entry spare active unary idle formed held names repeats unserved measured verdict needed writeJudged writeNumber
 no-entry-last = refl
+
+-- ---- what an accepted write leaves
+
+-- 64 bytes with bit 3 set
+abbrev three : List ℕ
+three = 8 ∷ zeros 63
+
+-- the cells and the metadata of a write to a fresh row of one entry: of a 1 to cell 3, which is stuck at these values
+abbrev left : List ℕ → List (List ℕ)
+left values = bytes 64 (stored three three values) ∷ encode 1 (after three three values []) ∷ []
+
+-- stuck at 0, it holds 0 and gets an entry; stuck at 1, it gets none
+pub ones-stuck : (left (zeros 64) ≡ zeros 64 ∷ (0x07 ∷ 0x04 ∷ []) ∷ []) × (left three ≡ three ∷ (0 ∷ 0 ∷ []) ∷ [])
+unfolding xor some sum list has word words at bytes unary idle names unserved positions renewed after stored slot metadataBit encode
+ones-stuck = (refl, refl)
+
+-- active entries keep their order, which need not rise: the first of two names 300, the second 3
+abbrev falling : List ℕ
+falling = 0x58 ∷ 0x1A ∷ 0x60 ∷ 0x00 ∷ []
+
+pub order-kept : encode 3 (after (zeros 64) (zeros 64) (zeros 64) (held 3 falling)) ≡ falling
+unfolding xor some sum list has word words at bytes entry active unary idle held names unserved positions renewed after slot metadataBit encode
+order-kept = refl
