@@ -86,7 +86,7 @@ past-bytes m n k bs h = (there, λ (i, j, p, q, l, e). (i, j, q, cell-bit m n k 
 
 -- ---- there and back: what is joined from counters and words is taken apart into them
 
-word-back : (ws : List ℕ) (i : ℕ) → i < length ws → take 8 (drop (8 * i) (wordBytes ws)) ≡ digits 256 8 (getD ws i 0)
+pub word-back : (ws : List ℕ) (i : ℕ) → i < length ws → take 8 (drop (8 * i) (wordBytes ws)) ≡ digits 256 8 (getD ws i 0)
 unfolding wordBytes
 word-back [] i l = absurd (omega arith)
 word-back (w ∷ ws) zero l = take-at (digits 256 8 w) (wordBytes ws) 8 (length-digits 256 8 w)
@@ -94,7 +94,7 @@ word-back (w ∷ ws) (suc i) l =
     let e : 8 * suc i ≡ length (digits 256 8 w) + 8 * i = omega (arith, length-digits 256 8 w) in
     ap (λ j. take 8 (drop j (digits 256 8 w ++ wordBytes ws))) e ∙ ap (take 8) (drop-append-add (digits 256 8 w) (wordBytes ws) (8 * i)) ∙ word-back ws i (omega arith)
 
-length-word-bytes : (ws : List ℕ) → length (wordBytes ws) ≡ 8 * length ws
+pub length-word-bytes : (ws : List ℕ) → length (wordBytes ws) ≡ 8 * length ws
 unfolding wordBytes
 length-word-bytes [] = refl
 length-word-bytes (w ∷ ws) = length-append (digits 256 8 w) (wordBytes ws) ∙ omega (arith, length-digits 256 8 w, length-word-bytes ws)

@@ -4,6 +4,7 @@ use Rattle.fragment_promises.proofs.StepLaws.{one-start, one-lump, one-
 use Rattle.fragment_promises.proofs.FinishLaws.{one-finish, one-finish-by-demands, finish-measured}
 use Rattle.fragment_promises.proofs.SequenceLaws.{as-defined, every-lump, every-finish}
 use Rattle.fragment_promises.proofs.CuttingLaws.{whole-block, sent-block, store-then-send, wrong-output, short-block, long-block, bad-block, every-start, ever-after, not-taken, joined-lumps, two-cuttings, any-cutting, empty-lump, finish-between, starts-afresh, stays}
+use Rattle.fragment_promises.proofs.LayoutLaws.{words-read}
 
 pub claims : Claims
 claims = record {
@@ -36,4 +37,5 @@ claims = record {
   finishBetween = finish-between;
   startsAfresh = starts-afresh;
   stays = stays;
+  wordsRead = words-read;
 }

@@ -6,4 +6,6 @@ pub mod FinishLaws
 pub mod SequenceLaws
 pub mod CuttingLaws
 pub mod Examples
+pub mod LayoutLaws
+pub mod Arrangement
 pub mod Claims

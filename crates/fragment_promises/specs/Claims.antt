@@ -1,6 +1,7 @@
 -- Every theorem of this crate, a field each: proofs/Claims.antt has the value, so a theorem without a proof fails the check. Assumes nothing.
 use Rattle.fragment_promises.specs.Promises.{OneStart, OneLump, OneFinish, OneStartByDemands, OneLumpByDemands, OneFinishByDemands, StartLowest, LumpLowest, FinishMeasured}
 use Rattle.fragment_promises.specs.Sequences.{AsDefined, EveryLump, EveryFinish, Whole, Sent, StoreThenSend, WrongOutput, Short, Long, Bad, EveryStart, EverAfter, NotTaken, Joined, TwoCuttings, AnyCutting, EmptyLump, FinishBetween, StartsAfresh, Stays}
+use Rattle.fragment_promises.specs.Layout.{WordsRead}
 
 pub record Claims : Type 0 where
   pub oneStart : OneStart
@@ -32,3 +33,4 @@ pub record Claims : Type 0 where
   pub finishBetween : FinishBetween
   pub startsAfresh : StartsAfresh
   pub stays : Stays
+  pub wordsRead : WordsRead
