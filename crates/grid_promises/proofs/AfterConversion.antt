@@ -15,11 +15,10 @@ use Rattle.grid_promises.specs.Demands.{Names, StoreDemands}
 use Rattle.grid_promises.specs.Conversion.{convertInRange, convertSized, convertNumber, ConvertDemands, StoresKept, ConvertTwice}
 use Rattle.grid_promises.specs.declared.Answer.{Answer}
 use Rattle.grid_promises.specs.declared.ConvertAnswer.{ConvertAnswer}
-use Rattle.grid_promises.proofs.RefusalLaws.{in-range, counters-sized}
 use Rattle.grid_promises.proofs.IndexLaws.{names-none}
 use Rattle.grid_promises.proofs.OneAnswer.{either-way, same-counts, same-end}
 use Rattle.grid_promises.proofs.ByDemands.{store-exactly}
-use Rattle.grid_promises.proofs.SameReads.{Readable, no-above, none-above}
+use Rattle.grid_promises.proofs.SameReads.{Readable, no-above, tested}
 use Rattle.grid_promises.proofs.ConvertLaws.{convert-accepted, convert-range}
 use Rattle.grid_promises.proofs.ConvertDemands.{same, before-readable, after-readable}
 use Rattle.grid_promises.proofs.OneConversion.{convert-exactly}
@@ -48,17 +47,9 @@ module _ (b : Block) (k k′ : ℕ) (bs bs′ : List ℕ) (s : Readable (b .rows
   same-number : (cells : ℕ) → storeNumber b k bs cells ≡ storeNumber b k′ bs′ cells
   unfolding storeNumber
   same-number cells =
-      rw (
-        in-range (b .rows) (b .columns) k .1 (s .range),
-        in-range (b .rows) (b .columns) k′ .1 (s′ .range),
-        counters-sized (b .rows) (b .columns) k (length bs) .1 (s .size),
-        counters-sized (b .rows) (b .columns) k′ (length bs′) .1 (s′ .size),
-        s .clear,
-        s′ .clear,
-        none-above (b .rows) (b .columns) k bs s,
-        none-above (b .rows) (b .columns) k′ bs′ s′,
-        misreads-ext b _ _ _ _ same-row same-column,
-      )
+      let p = tested (b .rows) (b .columns) k bs s in
+      let q = tested (b .rows) (b .columns) k′ bs′ s′ in
+      rw (p .range, q .range, p .sized, q .sized, p .clear, q .clear, p .none, q .none, misreads-ext b _ _ _ _ same-row same-column)
 
   same-storing : (cells : List ℕ) (a a′ : Answer) (x x′ : List ℕ) → StoreDemands b k bs cells a x → StoreDemands b k′ bs′ cells a′ x′ → (a ≡ a′) × (x ≡ x′)
   same-storing cells a a′ x x′ d d′ =
@@ -86,18 +77,9 @@ module _ (m n k k′ k″ : ℕ) (bs bs′ : List ℕ) (h : k ≤ k″) (h′ : 
   same-judged : (out : ℕ) → convertNumber m n k′ k″ bs′ out ≡ convertNumber m n k k″ bs out
   unfolding convertNumber convertInRange convertSized
   same-judged out =
-      rw (
-        in-range m n k .1 (s .range),
-        in-range m n k′ .1 (s′ .range),
-        le-leb k k″ h,
-        le-leb k′ k″ h′,
-        counters-sized m n k (length bs) .1 (s .size),
-        counters-sized m n k′ (length bs′) .1 (s′ .size),
-        s .clear,
-        s′ .clear,
-        none-above m n k bs s,
-        none-above m n k′ bs′ s′,
-      )
+      let p = tested m n k bs s in
+      let q = tested m n k′ bs′ s′ in
+      rw (p .range, q .range, le-leb k k″ h, le-leb k′ k″ h′, p .sized, q .sized, p .clear, q .clear, p .none, q .none)
 
   same-converting : (out : List ℕ) (c c′ : ConvertAnswer) (x x′ : List ℕ) → ConvertDemands m n k′ k″ bs′ out c x → ConvertDemands m n k k″ bs out c′ x′ → (c ≡ c′) × (x ≡ x′)
   unfolding unpacked

@@ -50,7 +50,7 @@ one-read-by-demands m n k cells counters out a a′ x x′ d e =
 -- ---- a plan
 
 -- the bytes hold the counters that are read from them
-lines : (w m n : ℕ) (bs : List ℕ) → HeldLines w m n bs (rowCounter w bs) (columnCounter w m bs)
+pub lines : (w m n : ℕ) (bs : List ℕ) → HeldLines w m n bs (rowCounter w bs) (columnCounter w m bs)
 lines w m n bs = record { rows = λ i _. counter-held w i bs; columns = λ j _. counter-held w (m + j) bs }
 
 -- well-formed bytes with these counters are the packed ones

@@ -4,6 +4,7 @@ use Rattle.grid_promises.proofs.PlanDemands.{bound-follows}
 use Rattle.grid_promises.proofs.OneAnswer.{one-read, one-plan, one-store, output-measured, old-counters-measured, old-cells-measured, plan-ignores-sound, store-ignores-sound}
 use Rattle.grid_promises.proofs.ByDemands.{one-read-by-demands, one-plan-by-demands, one-store-by-demands}
 use Rattle.grid_promises.proofs.PlanThenStore.{plan-then-store}
+use Rattle.grid_promises.proofs.OptimalPlans.{store-exists, refused-if-never-stored, store-then-plan}
 use Rattle.grid_promises.proofs.OneConversion.{one-convert, one-convert-by-demands, smaller-refused, output-keeps-length, convert-measured, reads-kept}
 use Rattle.grid_promises.proofs.AfterConversion.{stores-kept, convert-twice}
 use Rattle.grid_promises.proofs.PlanThenConvert.{plan-then-convert}
@@ -23,6 +24,9 @@ claims = record {
   storeLowest = store-lowest;
   boundFollows = bound-follows;
   planThenStore = plan-then-store;
+  storeExists = store-exists;
+  refusedIfNeverStored = refused-if-never-stored;
+  storeThenPlan = store-then-plan;
   outputMeasured = output-measured;
   oldCountersMeasured = old-counters-measured;
   oldCellsMeasured = old-cells-measured;

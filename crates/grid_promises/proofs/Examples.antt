@@ -15,10 +15,9 @@ use Rattle.rdis.specs.Packing.{width, bytesFor, packed, unpacked, counter, spar
 use Rattle.grid_promises.specs.Calls.{inRange, countersSized, past, block, readNumber, planNumber, storeNumber, badIndex}
 use Rattle.grid_promises.specs.Promises.{Read, Plan, Store}
 use Rattle.grid_promises.specs.Conversion.{convertInRange, convertSized, convertNumber, Convert}
-use Rattle.grid_promises.specs.declared.Answer.{Answer}
 use Rattle.grid_promises.proofs.ReadDemands.{read-demands}
 use Rattle.grid_promises.proofs.PlanDemands.{plan-demands}
-use Rattle.grid_promises.proofs.StoreDemands.{store-demands}
+use Rattle.grid_promises.proofs.StoreDemands.{store-demands, uncounted, store-refused}
 use Rattle.grid_promises.proofs.ConvertDemands.{convert-demands}
 
 -- one cell, stuck at 0, that should hold a 1
@@ -44,20 +43,9 @@ bad-read = read-demands 2 2 2 (3 ∷ 3 ∷ []) (0x30 ∷ []) (7 ∷ 8 ∷ []) (r
 abbrev pub G3 : Block
 G3 = block 2 2 (0 ∷ 0 ∷ []) (3 ∷ 2 ∷ []) (1 ∷ 2 ∷ [])
 
-abbrev named : Answer
-named = record { number = 4; levels = 0; faults = 0; wrong = 0; right = 0; index = 2 }
-
-pub bad-store : Store G3 2 (0x30 ∷ []) (7 ∷ 8 ∷ []) named (7 ∷ 8 ∷ [])
+pub bad-store : Store G3 2 (0x30 ∷ []) (7 ∷ 8 ∷ []) (uncounted 4 2) (7 ∷ 8 ∷ [])
 unfolding storeNumber badIndex firstAbove first inRange countersSized past above spareClear counter width bytesFor number some
-bad-store = store-demands G3 2 (0x30 ∷ []) (7 ∷ 8 ∷ []) named (7 ∷ 8 ∷ []) (record {
-  number = refl;
-  indexIs = refl;
-  untouched = λ _. (record { levels = refl; faults = refl; wrong = refl; right = refl }, refl);
-  cellsAre = λ z. absurd (omega arith);
-  levelsAre = λ z. absurd (omega arith);
-  faultsAre = λ z. absurd (omega arith);
-  kindsAre = λ z. absurd (omega arith);
-})
+bad-store = store-refused G3 2 (0x30 ∷ []) (7 ∷ 8 ∷ []) 3 refl
 
 -- numbers that are written out are bytes
 no-bytes : Below 256 []

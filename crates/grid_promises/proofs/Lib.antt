@@ -6,6 +6,7 @@ pub mod Examples
 pub mod OneAnswer
 pub mod ByDemands
 pub mod PlanThenStore
+pub mod OptimalPlans
 pub mod RefusalLaws
 pub mod IndexLaws
 pub mod ConvertLaws

@@ -24,7 +24,7 @@ use Rattle.grid_promises.specs.Refusals.{planRefusals, storeRefusals}
 use Rattle.grid_promises.specs.Demands.{PlanDemands, StoreDemands}
 use Rattle.grid_promises.specs.Theorems.{PlanKept, PlanThenStore}
 use Rattle.grid_promises.specs.declared.Answer.{Answer}
-use Rattle.grid_promises.proofs.RefusalLaws.{held-is, misread-iff, plan-accepted}
+use Rattle.grid_promises.proofs.RefusalLaws.{plan-to-store, held-is, misread-iff, plan-accepted}
 use Rattle.grid_promises.proofs.PlanDemands.{plan-range, plan-lengths, planned, plan-fits}
 use Rattle.grid_promises.proofs.StoreDemands.{store-demands}
 use Rattle.grid_promises.proofs.OneAnswer.{same-answer, same-counts}
@@ -89,7 +89,7 @@ module _ (b : Block) (k : ℕ) (old counters cells cells′ : List ℕ) (p s : A
       let m = plan-lengths b k (length old) free in (
         free .0,
         (
-          λ h. h (record { planned = record { dataWords = m .dataWords; maskWords = m .maskWords; valueWords = m .valueWords; counterBytes = d .wellFormed z .size }; cellWords = l }),
+          λ h. h (plan-to-store m (d .wellFormed z .size) l),
           (
             ⊎-elim (free .1 .1 .0) (d .wellFormed z .clear),
             (

@@ -65,6 +65,11 @@ store-sized b k counters cells =
       λ r. let p = r .planned in (((p .dataWords, (p .maskWords, p .valueWords)), r .cellWords), p .counterBytes),
     )
 
+-- lengths that are right for a plan are right for a store too, with counters and cells of their own lengths
+pub plan-to-store : {b : Block} {k old counters cells : ℕ} → PlanLengths b k old → counters ≡ bytesFor (width k) (b .rows + b .columns) → cells ≡ b .rows
+    → StoreLengths b k counters cells
+plan-to-store m c l = record { planned = record { dataWords = m .dataWords; maskWords = m .maskWords; valueWords = m .valueWords; counterBytes = c }; cellWords = l }
+
 -- words without bits past the last column are numbers of n bits
 pub within : (n : ℕ) (ws : List ℕ) → (past n ws ≡ false) ↔ Below (2 ^ n) ws
 unfolding past

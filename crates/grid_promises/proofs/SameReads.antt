@@ -9,7 +9,7 @@ use lib.ListN.{length}
 use Rattle.bits.proofs.TestLaws.{false-iff}
 use Rattle.rdis.specs.Packing.{width, bytesFor, counter, rowCounter, columnCounter, spareClear, above}
 use Rattle.rdis.proofs.CellLaws.{reading-ext}
-use Rattle.grid_promises.specs.Calls.{readNumber}
+use Rattle.grid_promises.specs.Calls.{inRange, countersSized, readNumber}
 use Rattle.grid_promises.specs.Refusals.{InRange, Above}
 use Rattle.grid_promises.specs.Promises.{ReadExactly}
 use Rattle.grid_promises.specs.declared.ReadAnswer.{ReadAnswer}
@@ -24,14 +24,26 @@ pub record Readable (m n k : ℕ) (bs : List ℕ) : Type 0 where
   pub clear : spareClear (width k) (m + n) bs ≡ true
   pub few : (t : ℕ) → t < m + n → counter (width k) bs t ≤ k
 
+pub record Tested (m n k : ℕ) (bs : List ℕ) : Type 0 where
+  pub range : inRange m n k ≡ true
+  pub sized : countersSized m n k (length bs) ≡ true
+  pub clear : spareClear (width k) (m + n) bs ≡ true
+  pub none : above k (m + n) bs ≡ false
+
 module _ (m n k : ℕ) (bs : List ℕ) (s : Readable m n k bs) where
   pub no-above : Above k (m + n) bs → ⊥
   no-above (t, l, (x, held, h)) = omega (arith, s .few t l, held-is (width k) t x bs held)
 
-  pub none-above : above k (m + n) bs ≡ false
-  none-above = false-iff _ (above-iff (m + n) k bs) no-above
+  -- so what a call tests of them comes out right
+  pub tested : Tested m n k bs
+  tested = record {
+    range = in-range m n k .1 (s .range);
+    sized = counters-sized m n k (length bs) .1 (s .size);
+    clear = s .clear;
+    none = false-iff _ (above-iff (m + n) k bs) no-above;
+  }
 
-  -- so a read by them names none
+  -- and a read by them names none
   no-four : (cells : List ℕ) (out : ℕ) → readNumber m n k cells bs out ≢ 4
   no-four cells out z =
       no-above (read-4 m n k cells bs out _ (read-first m n k cells bs out) z)
@@ -45,16 +57,9 @@ module _ (m n k k′ : ℕ) (bs bs′ : List ℕ) (s : Readable m n k bs) (s′ 
   same-number : (cells : List ℕ) (out : ℕ) → readNumber m n k cells bs out ≡ readNumber m n k′ cells bs′ out
   unfolding readNumber
   same-number cells out =
-      rw (
-        in-range m n k .1 (s .range),
-        in-range m n k′ .1 (s′ .range),
-        counters-sized m n k (length bs) .1 (s .size),
-        counters-sized m n k′ (length bs′) .1 (s′ .size),
-        s .clear,
-        s′ .clear,
-        none-above m n k bs s,
-        none-above m n k′ bs′ s′,
-      )
+      let p = tested m n k bs s in
+      let q = tested m n k′ bs′ s′ in
+      rw (p .range, q .range, p .sized, q .sized, p .clear, q .clear, p .none, q .none)
 
   pub same-reading : (cells out : List ℕ) (a a′ : ReadAnswer) (x x′ : List ℕ)
       → ReadExactly m n k cells bs out a x → ReadExactly m n k′ cells bs′ out a′ x′ → (a ≡ a′) × (x ≡ x′)

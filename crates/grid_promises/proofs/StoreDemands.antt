@@ -1,5 +1,5 @@
 -- What is demanded of a store holds of every one that ends exactly as it should. Assumes nothing.
-use Prim.Native.Nat.{ℕ, _+_, _^_, _<_}
+use Prim.Native.Nat.{ℕ, suc, _+_, _^_, _<_}
 use mathlib.Core.Path.{_≡_, refl, sym, ap, ap₂, subst, _∙_}
 use mathlib.Core.Bool.{false}
 use mathlib.Core.List.{List}
@@ -17,7 +17,7 @@ use Rattle.rdis.specs.Cells.{flips, stored, reading}
 use Rattle.rdis.specs.Packing.{width, counter, rowCounter, columnCounter}
 use Rattle.rdis.proofs.CellLaws.{stuck-held, sound-stored, stored-reads}
 use Rattle.rdis.proofs.CountLaws.{faults-are-cells}
-use Rattle.grid_promises.specs.Calls.{badIndex}
+use Rattle.grid_promises.specs.Calls.{storeNumber, badIndex}
 use Rattle.grid_promises.specs.Refusals.{InRange, StoreLengths, PastBlock, Spare, Above, Held, inverted, Misread, readRefusals, storeRefusals}
 use Rattle.grid_promises.specs.Demands.{Greatest}
 use Rattle.grid_promises.specs.Promises.{Read, StoreExactly, Store}
@@ -112,3 +112,19 @@ module _ (b : Block) (k : ℕ) (counters cells : List ℕ) (a : Answer) (cells�
     };
     readsBack = reads-back;
   }
+
+-- one that is refused, with the number that is computed: every count is 0
+abbrev pub uncounted : ℕ → ℕ → Answer
+uncounted number index = record { number = number; levels = 0; faults = 0; wrong = 0; right = 0; index = index }
+
+pub store-refused : (b : Block) (k : ℕ) (counters cells : List ℕ) (n : ℕ) → storeNumber b k counters (length cells) ≡ suc n
+    → Store b k counters cells (uncounted (suc n) (badIndex k (b .rows + b .columns) counters (suc n))) cells
+store-refused b k counters cells n e = store-demands b k counters cells _ cells (record {
+  number = sym e;
+  indexIs = refl;
+  untouched = λ _. (record { levels = refl; faults = refl; wrong = refl; right = refl }, refl);
+  cellsAre = λ z. absurd (omega arith);
+  levelsAre = λ z. absurd (omega arith);
+  faultsAre = λ z. absurd (omega arith);
+  kindsAre = λ z. absurd (omega arith);
+})

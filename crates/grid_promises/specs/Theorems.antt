@@ -16,8 +16,8 @@ use Rattle.rdis.specs.Cells.{stored, reading}
 use Rattle.rdis.specs.Packing.{width, bytesFor, inOrder, packed, counter, rowCounter, columnCounter, spareClear}
 use Rattle.rdis.specs.Theorems.{withValues, oldWidth}
 use Rattle.grid_promises.specs.Calls.{between, past, rowsOf, columnsOf}
-use Rattle.grid_promises.specs.Refusals.{InRange, Past, readRefusals, planRefusals, storeRefusals}
-use Rattle.grid_promises.specs.Demands.{CountsKinds, BoundsLevels, ReadDemands, PlanDemands, StoreDemands}
+use Rattle.grid_promises.specs.Refusals.{InRange, Past, Held, Above, readRefusals, planRefusals, storeRefusals}
+use Rattle.grid_promises.specs.Demands.{CountsKinds, BoundsLevels, WellFormed, ReadDemands, PlanDemands, StoreDemands}
 use Rattle.grid_promises.specs.Promises.{ReadExactly, Read, PlanExactly, Plan, StoreExactly, Store}
 use Rattle.grid_promises.specs.declared.ReadAnswer.{ReadAnswer}
 use Rattle.grid_promises.specs.declared.Answer.{Answer}
@@ -83,6 +83,40 @@ abbrev pub PlanThenStore : Type 0
 PlanThenStore =
     (b : Block) (k : ℕ) (old counters cells cells′ : List ℕ) (p s : Answer) → PlanDemands b k old p counters → p .number ≡ 0 → length cells ≡ b .rows
     → StoreDemands b k counters cells s cells′ → PlanKept b k counters p s cells′
+
+-- ---- no counters do better than a plan's
+
+-- for every argument some end keeps a store's promise
+abbrev pub StoreExists : Type 0
+StoreExists = (b : Block) (k : ℕ) (counters cells : List ℕ) → (s : Answer) × (cells′ : List ℕ) × Store b k counters cells s cells′
+
+-- counters that are no reason to refuse a store of the block at K = k: as many bytes as they need, no spare bit is 1, and none is above K
+pub record Allowed (b : Block) (k : ℕ) (counters : List ℕ) : Type 0 where
+  pub formed : WellFormed (width k) (b .rows + b .columns) counters
+  pub most : Above k (b .rows + b .columns) counters → ⊥
+
+-- every store at K = k, by whatever such counters and into whatever cells of the right length, answers 13
+abbrev pub NeverStored : Block → ℕ → Type 0
+NeverStored b k =
+    (counters cells cells′ : List ℕ) (s : Answer) → Allowed b k counters → length cells ≡ b .rows → StoreDemands b k counters cells s cells′ → s .number ≡ 13
+
+-- a plan whose old counters have the right length answers 7 exactly if that is so
+abbrev pub RefusedIfNeverStored : Type 0
+RefusedIfNeverStored =
+    (b : Block) (k : ℕ) (old counters : List ℕ) (p : Answer) → PlanDemands b k old p counters → length old ≡ bytesFor (width k) (b .rows + b .columns)
+    → (p .number ≡ 7) ↔ NeverStored b k
+
+-- a plan p that leaves `counters′` is no worse than an accepted store s by `counters`: it is accepted, L is at most the store's, and so is each line's counter
+pub record NoWorse (b : Block) (k : ℕ) (counters counters′ : List ℕ) (s p : Answer) : Type 0 where
+  pub accepted : p .number ≡ 0
+  pub levels : p .levels ≤ s .levels
+  pub lines : (t x y : ℕ) → t < b .rows + b .columns → Held (width k) counters′ t x → Held (width k) counters t y → x ≤ y
+
+-- so it is where the sizes, K, data, mask and values are the store's, whoever made the store's counters
+abbrev pub StoreThenPlan : Type 0
+StoreThenPlan =
+    (b : Block) (k : ℕ) (counters cells cells′ old counters′ : List ℕ) (s p : Answer) → StoreDemands b k counters cells s cells′ → s .number ≡ 0
+    → length old ≡ length counters → PlanDemands b k old p counters′ → NoWorse b k counters counters′ s p
 
 -- ---- what does not count
 

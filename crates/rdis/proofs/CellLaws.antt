@@ -65,7 +65,7 @@ read-cell true d v f = xor-none (xor f v) d
 read-cell false d v f = (λ _. sym (xor-twice f d), λ _. refl)
 
 module _ (b : Block) (r c : ℕ → ℕ) where
-  none-misread : (misreads b r c ≡ false) ↔ ((i j : ℕ) → i < b .rows → j < b .columns → misread b r c i j ≡ false)
+  pub none-misread : (misreads b r c ≡ false) ↔ ((i j : ℕ) → i < b .rows → j < b .columns → misread b r c i j ≡ false)
   unfolding misreads
   none-misread = (
     λ h i j p q. none-below (b .columns) _ (none-below (b .rows) _ h i p) j q,

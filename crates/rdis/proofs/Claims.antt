@@ -8,6 +8,7 @@ use Rattle.rdis.proofs.SoundLaws.{sound-ignored}
 use Rattle.rdis.proofs.CountLaws.{two-kinds, faults-are-cells}
 use Rattle.rdis.proofs.FaultLaws.{levels-by-kind, levels-by-faults}
 use Rattle.rdis.proofs.TakenLaws.{levels-counted, one-count}
+use Rattle.rdis.proofs.OptimalCounters.{chain-exceeds, chain-misreads, refused-if-no-counters, masked-if-any, least-counters, fewest-levels}
 
 pub claims : Claims
 claims = record {
@@ -40,4 +41,10 @@ claims = record {
   threeBits = three-bits;
   readBackPacked = read-back-packed;
   soundIgnored = sound-ignored;
+  chainExceeds = chain-exceeds;
+  chainMisreads = chain-misreads;
+  refusedIfNoCounters = refused-if-no-counters;
+  maskedIfAny = masked-if-any;
+  leastCounters = least-counters;
+  fewestLevels = fewest-levels;
 }

@@ -75,7 +75,7 @@ ends b k = levels-ind b (Ends b) (ended b) (λ w s e. long-zero b w s .1 e) (nex
 
 -- ---- 1. refusal
 
-chain-long : (b : Block) (k : ℕ) → HasChain b (2 * k + 1) ↔ Long b true (whole b) k
+pub chain-long : (b : Block) (k : ℕ) → HasChain b (2 * k + 1) ↔ Long b true (whole b) k
 chain-long b k =
     let e : suc (twice k) ≡ 2 * k + 1 = omega (arith, twice-is k) in
     subst (λ n. HasChain b n ↔ Long b true (whole b) k) e (Iff·symm (long-whole b k))

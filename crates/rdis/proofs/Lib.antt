@@ -9,4 +9,5 @@ pub mod SoundLaws
 pub mod CountLaws
 pub mod FaultLaws
 pub mod TakenLaws
+pub mod OptimalCounters
 pub mod Claims

@@ -87,7 +87,7 @@ levels-take b = levels-ind b (λ _. Takes b) (λ k. ended b) (λ w s e. tt) (λ 
 
 -- ---- of a plan
 
-even : (t : ℕ) → colour true t ≡ eqb (t % 2) 0
+pub even : (t : ℕ) → colour true t ≡ eqb (t % 2) 0
 even zero = refl
 even (suc zero) = refl
 even (suc (suc t)) = let p : suc (suc t) % 2 ≡ t % 2 = omega arith in rw p (even t)

@@ -90,7 +90,7 @@ module _ (b : Block) (w : Bool) (s : Subgrid) where
   unfolding left
   left-in {c} h = some-in (b .rows) (takesRow b w s) (c .row) (h .cell .0) (takes-row h)
 
-  left-out : left b w s ≡ true → (e : Cell) × In b s w e
+  pub left-out : left b w s ≡ true → (e : Cell) × In b s w e
   unfolding left
   left-out h =
       let (i, l, t) = some-out (b .rows) (takesRow b w s) h in

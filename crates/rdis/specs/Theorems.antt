@@ -181,3 +181,38 @@ pub record SameWrite (b d : Block) : Type 0 where
 -- so are blocks whose values differ at sound cells alone
 abbrev pub SoundIgnored : Type 0
 SoundIgnored = (b : Block) (v : List ℕ) → ((i j : ℕ) → i < b .rows → j < b .columns → stuck b i j ≡ true → bit (b .values) i j ≡ bit v i j) → SameWrite b (withValues b v)
+
+-- ---- 7. no counters do better than a plan's
+
+-- no counter of a row or a column of b is above k
+abbrev pub AtMost : Block → ℕ → (ℕ → ℕ) → (ℕ → ℕ) → Type 0
+AtMost b k r c = ((i : ℕ) → i < b .rows → r i ≤ k) × ((j : ℕ) → j < b .columns → c j ≤ k)
+
+-- where there is a chain of 2k + 1 cells and none reads wrong, some row and some column that cross have counters above k
+abbrev pub ChainExceeds : Type 0
+ChainExceeds =
+    (b : Block) (k : ℕ) (r c : ℕ → ℕ) → HasChain b (2 * k + 1) → misreads b r c ≡ false
+    → (i : ℕ) × (j : ℕ) × (i < b .rows) × (j < b .columns) × (k < r i) × (k < c j)
+
+-- so by counters up to k some stuck cell reads wrong
+abbrev pub ChainMisreads : Type 0
+ChainMisreads = (b : Block) (k : ℕ) (r c : ℕ → ℕ) → HasChain b (2 * k + 1) → AtMost b k r c → misreads b r c ≡ true
+
+-- a plan with k levels fails exactly where no counters up to k would do
+abbrev pub RefusedIfNoCounters : Type 0
+RefusedIfNoCounters = (b : Block) (k : ℕ) → (plan b k ≡ unmaskable) ↔ ((r c : ℕ → ℕ) → AtMost b k r c → misreads b r c ≡ true)
+
+-- and where some do, it masks the faults
+abbrev pub MaskedIfAny : Type 0
+MaskedIfAny =
+    (b : Block) (k : ℕ) (r c : ℕ → ℕ) → AtMost b k r c → misreads b r c ≡ false → (l : ℕ) × (r′ : ℕ → ℕ) × (c′ : ℕ → ℕ) × Masked b k l r′ c′
+
+-- of all counters by which no stuck cell reads wrong, a plan's are the least, line by line
+abbrev pub LeastCounters : Type 0
+LeastCounters =
+    (b : Block) (k l : ℕ) (r c r′ c′ : ℕ → ℕ) → Masked b k l r c → misreads b r′ c′ ≡ false
+    → ((i : ℕ) → i < b .rows → r i ≤ r′ i) × ((j : ℕ) → j < b .columns → c j ≤ c′ j)
+
+-- and its levels the fewest
+abbrev pub FewestLevels : Type 0
+FewestLevels = (b : Block) (k l m : ℕ) (r c r′ c′ : ℕ → ℕ) → Masked b k l r c → misreads b r′ c′ ≡ false → AtMost b m r′ c′ → l ≤ m
