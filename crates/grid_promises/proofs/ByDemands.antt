@@ -1,6 +1,6 @@
 -- The demands alone say all that the exact part says; so they too leave one answer. Assumes nothing.
-use Prim.Native.Nat.{ℕ, _+_, _-_, _^_, _<_}
-use mathlib.Core.Path.{_≡_, refl, sym, _∙_}
+use Prim.Native.Nat.{ℕ, _+_, _-_, _^_, _<_, _≤_}
+use mathlib.Core.Path.{_≡_, refl, sym, subst, _∙_}
 use mathlib.Core.Bool.{Bool, true, false, cond}
 use mathlib.Core.List.{List}
 use native.Mathlib.Omega.{arith}
@@ -17,8 +17,9 @@ use Rattle.rdis.specs.Packing.{width, inOrder, counter, rowCounter, columnCount
 use Rattle.rdis.specs.Theorems.{Packs}
 use Rattle.rdis.proofs.LevelLaws.{levels-by-chain, one-depth}
 use Rattle.rdis.proofs.TakenLaws.{levels-counted, one-count}
-use Rattle.rdis.proofs.PackingLaws.{length-in-order, in-order-unpacked, plan-below, packed-only}
+use Rattle.rdis.proofs.PackingLaws.{length-in-order, in-order-unpacked, plan-below, plan-counter, packed-only}
 use Rattle.rdis.proofs.CountLaws.{faults-are-cells}
+use Rattle.grid_promises.specs.Refusals.{Above}
 use Rattle.grid_promises.specs.Demands.{WellFormed, HeldLines, Greatest, ReadDemands, PlanDemands, StoreDemands}
 use Rattle.grid_promises.specs.Promises.{ReadExactly, PlanExactly, StoreExactly}
 use Rattle.grid_promises.specs.Theorems.{OneReadByDemands, OnePlanByDemands, OneStoreByDemands}
@@ -80,6 +81,14 @@ plan-exactly b k counters a counters′ d = record {
   faultsAre = λ z. d .everyFault z ∙ sym (faults-are-cells (b .rows) (b .columns) (b .mask) (plan-mask b k (length counters) (plan-accepted b k (length counters) (a .number) (d .first) z)));
   kindsAre = d .kinds;
 }
+
+-- no counter that an accepted plan leaves is above K
+pub plan-few : (b : Block) (k : ℕ) (counters : List ℕ) (a : Answer) (counters′ : List ℕ) → PlanDemands b k counters a counters′ → a .number ≡ 0
+    → Above k (b .rows + b .columns) counters′ → ⊥
+plan-few b k counters a counters′ d z (t, l, (x, held, h)) =
+    let free = plan-accepted b k (length counters) (a .number) (d .first) z in
+    let few = plan-counter b k _ _ _ (planned b k (length counters) free) (width k) t (plan-fits b k (length counters) free) l in
+    omega (arith, held-is (width k) t x counters′ held, subst (λ bs. counter (width k) bs t ≤ k) (sym (plan-exactly b k counters a counters′ d .countersAre z)) few)
 
 pub one-plan-by-demands : OnePlanByDemands
 one-plan-by-demands b k counters a a′ x x′ d e = one-plan b k counters a a′ x x′ (plan-exactly b k counters a x d) (plan-exactly b k counters a′ x′ e)

@@ -29,7 +29,7 @@ use Rattle.grid_promises.specs.Theorems.{StoreExists, Allowed, NeverStor
 use Rattle.grid_promises.specs.declared.Answer.{Answer}
 use Rattle.grid_promises.proofs.RefusalLaws.{plan-to-store, counter-held, held-is, misread-iff, store-first, store-accepted}
 use Rattle.grid_promises.proofs.StoreDemands.{store-mask, store-demands, store-refused}
-use Rattle.grid_promises.proofs.ByDemands.{lines}
+use Rattle.grid_promises.proofs.ByDemands.{lines, plan-few}
 use Rattle.grid_promises.proofs.PlanThenStore.{plan-then-store}
 
 -- ---- any store has an answer
@@ -82,6 +82,10 @@ module _ (b : Block) (k : ℕ) where
   abbrev zeros : List ℕ
   zeros = replicate (bytesFor (width k) (b .rows + b .columns)) 0
 
+  zeros-few : Above k (b .rows + b .columns) zeros → ⊥
+  zeros-few (t, l, (x, (u, f), h)) =
+      omega (arith, has-ext (width k) x 0 u (pow-pos (width k)) (λ q p. f q p ∙ none-set (bytesFor (width k) (b .rows + b .columns)) _ ∙ sym (has-zero q)))
+
   zeros-allowed : Allowed b k zeros
   zeros-allowed = record {
     formed = record {
@@ -89,8 +93,7 @@ module _ (b : Block) (k : ℕ) where
       bytes = λ i. rw (getD-zeros (bytesFor (width k) (b .rows + b .columns)) i) (omega arith);
       clear = λ (p, l, h). clash h (none-set (bytesFor (width k) (b .rows + b .columns)) p);
     };
-    most = λ (t, l, (x, (u, f), h)).
-        omega (arith, has-ext (width k) x 0 u (pow-pos (width k)) (λ q p. f q p ∙ none-set (bytesFor (width k) (b .rows + b .columns)) _ ∙ sym (has-zero q)));
+    most = zeros-few;
   }
 
 -- ---- refused
@@ -129,8 +132,7 @@ module _ (b : Block) (k : ℕ) (old counters : List ℕ) (p : Answer) (d : PlanD
     not-accepted z (s, cells′, f) =
         let e = f .demands in
         let accepted : s .number ≡ 0 = ap (λ a. a .number) (plan-then-store b k old counters cells cells′ p s d z size e .accepted) ∙ z in
-        let none = store-accepted b k counters (length cells) (s .number) (e .first) accepted in
-        omega (arith, never counters cells cells′ s (record { formed = d .wellFormed z; most = none .1 .1 .1 .0 }) size e)
+        omega (arith, never counters cells cells′ s (record { formed = d .wellFormed z; most = plan-few b k old p counters d z }) size e)
 
     seven : length old ≡ bytesFor (width k) (b .rows + b .columns) → p .number ≡ 7
     seven l =

@@ -1,25 +1,25 @@
 -- What an accepted plan gave, converted, is what a plan at the target gives. Assumes nothing.
 use Prim.Native.Nat.{ℕ, _+_, _^_, _≤_}
-use mathlib.Core.Path.{_≡_, refl, sym, ap, subst, _∙_}
+use mathlib.Core.Path.{_≡_, refl, sym, ap, _∙_}
 use mathlib.Core.List.{List}
 use native.Mathlib.Omega.{arith}
 use lib.ListN.{length}
 use Rattle.bits.proofs.FirstLaws.{NoneOf, accepts}
 use Rattle.rdis.specs.Block.{Block}
 use Rattle.rdis.specs.Levels.{Outcome, masked, unmaskable, plan}
-use Rattle.rdis.specs.Packing.{width, bytesFor, inOrder, packed, unpacked, counter}
+use Rattle.rdis.specs.Packing.{width, bytesFor, inOrder, packed, unpacked}
 use Rattle.rdis.specs.Theorems.{Masked}
 use Rattle.rdis.proofs.LevelLaws.{refused-by-chain, more-allowed}
-use Rattle.rdis.proofs.PackingLaws.{length-in-order, plan-below, plan-counter, unpack-pack}
+use Rattle.rdis.proofs.PackingLaws.{length-in-order, plan-below, unpack-pack}
 use Rattle.grid_promises.specs.Calls.{used, rowsOf, columnsOf}
 use Rattle.grid_promises.specs.Refusals.{InRange, planRefusals}
 use Rattle.grid_promises.specs.Demands.{PlanDemands}
 use Rattle.grid_promises.specs.Conversion.{convertRefusals, PlanThenConvert}
 use Rattle.grid_promises.specs.declared.Answer.{Answer}
-use Rattle.grid_promises.proofs.RefusalLaws.{held-is, plan-accepted}
+use Rattle.grid_promises.proofs.RefusalLaws.{plan-accepted}
 use Rattle.grid_promises.proofs.PlanDemands.{plan-range, plan-lengths, planned, plan-fits}
 use Rattle.grid_promises.proofs.OneAnswer.{same-answer, same-counts}
-use Rattle.grid_promises.proofs.ByDemands.{plan-exactly}
+use Rattle.grid_promises.proofs.ByDemands.{plan-exactly, plan-few}
 use Rattle.grid_promises.proofs.OneConversion.{convert-exactly}
 
 masks-or-not : (o : Outcome) (l : ℕ) (r c : ℕ → ℕ) → o ≡ masked l r c → o ≡ unmaskable → ⊥
@@ -54,17 +54,7 @@ module _ (b : Block) (k k′ : ℕ) (old counters : List ℕ) (p : Answer) (h : 
     λ f. f (record { before = range; after = range′; larger = h }),
     (
       λ f. f (record { counterBytes = d .wellFormed z .size; outBytes = l }),
-      (
-        d .wellFormed z .clear,
-        (
-          λ (t, q, (x, held, f)). omega (
-            arith,
-            held-is (width k) t x counters held,
-            subst (λ bs. counter (width k) bs t ≤ k) (sym packs) (plan-counter b k _ _ _ masks (width k) t (plan-fits b k (length old) none) q),
-          ),
-          tt,
-        ),
-      ),
+      (d .wellFormed z .clear, (plan-few b k old p counters d z, tt)),
     ),
   )
 

@@ -1,6 +1,6 @@
 -- A store that is lent what an accepted plan left is accepted, with the plan's counts, and reads as the data. Assumes nothing.
 use Prim.Native.Nat.{ℕ, suc, _+_, _^_, _<_, _≤_}
-use mathlib.Core.Path.{_≡_, refl, sym, ap, subst, _∙_}
+use mathlib.Core.Path.{_≡_, refl, sym, ap, _∙_}
 use mathlib.Core.Bool.{false}
 use mathlib.Core.List.{List}
 use mathlib.Core.Logic.{⊎-elim}
@@ -17,18 +17,18 @@ use Rattle.rdis.specs.Packing.{width, inOrder, packed, counter, rowCounter, col
 use Rattle.rdis.specs.Theorems.{Masked}
 use Rattle.rdis.proofs.CellLaws.{plan-reads, misreads-ext}
 use Rattle.rdis.proofs.CounterLaws.{counters-at-most, levels-reached}
-use Rattle.rdis.proofs.PackingLaws.{counter-packed, length-in-order, in-order-below, counters-back, plan-counter}
+use Rattle.rdis.proofs.PackingLaws.{counter-packed, length-in-order, in-order-below, counters-back}
 use Rattle.rdis.proofs.LevelLaws.{levels-by-chain}
 use Rattle.grid_promises.specs.Calls.{used, rowsOf, columnsOf}
 use Rattle.grid_promises.specs.Refusals.{planRefusals, storeRefusals}
 use Rattle.grid_promises.specs.Demands.{PlanDemands, StoreDemands}
 use Rattle.grid_promises.specs.Theorems.{PlanKept, PlanThenStore}
 use Rattle.grid_promises.specs.declared.Answer.{Answer}
-use Rattle.grid_promises.proofs.RefusalLaws.{plan-to-store, held-is, misread-iff, plan-accepted}
+use Rattle.grid_promises.proofs.RefusalLaws.{plan-to-store, misread-iff, plan-accepted}
 use Rattle.grid_promises.proofs.PlanDemands.{plan-range, plan-lengths, planned, plan-fits}
 use Rattle.grid_promises.proofs.StoreDemands.{store-demands}
 use Rattle.grid_promises.proofs.OneAnswer.{same-answer, same-counts}
-use Rattle.grid_promises.proofs.ByDemands.{plan-exactly, store-exactly, one-read-by-demands}
+use Rattle.grid_promises.proofs.ByDemands.{plan-exactly, plan-few, store-exactly, one-read-by-demands}
 
 -- the counters of a plan, packed in bytes of a width that holds them
 module _ (b : Block) (k l : ℕ) (r c : ℕ → ℕ) (w : ℕ) (masks : Masked b k l r c) (fits : k < 2 ^ w) where
@@ -93,7 +93,7 @@ module _ (b : Block) (k : ℕ) (old counters cells cells′ : List ℕ) (p s : A
           (
             ⊎-elim (free .1 .1 .0) (d .wellFormed z .clear),
             (
-              λ (t, q, (x, held, h)). omega (arith, held-is (width k) t x counters held, subst (λ bs. counter (width k) bs t ≤ k) (sym packs) (plan-counter b k _ _ _ masks (width k) t fits q)),
+              plan-few b k old p counters d z,
               (iff-false _ (misread-iff b k counters) reads-right, tt),
             ),
           ),
