@@ -34,22 +34,22 @@ rowEdges =
     -- a cell that is stuck at the right value is not unserved, in a fresh row and in a full one
     record { call = zeroWrite 1 (3 ∷ []) [] (0 ∷ 0 ∷ []); expected = wrote 0 0 [] (0 ∷ 0 ∷ []) }
     ∷ record { call = zeroWrite 1 (3 ∷ []) [] (0xFF ∷ 0x03 ∷ []); expected = wrote 1 0 [] (0xFF ∷ 0x03 ∷ []) }
-    -- nor is one that an active entry names
+    -- where the data bit is 1: a cell stuck at 0 holds 0 and gets an entry, and a cell stuck at 1 gets none
+    ∷ record { call = stuckWrite 1 3 [] (0 ∷ 0 ∷ []); expected = wrote 1 1 [] (0x07 ∷ 0x04 ∷ []) }
+    ∷ record { call = stuckWrite 1 3 (3 ∷ []) (0 ∷ 0 ∷ []); expected = wrote 0 0 (3 ∷ []) (0 ∷ 0 ∷ []) }
+    -- a cell that an active entry names is not unserved either
     ∷ record { call = zeroWrite 1 (511 ∷ []) (511 ∷ []) (0xFF ∷ 0x03 ∷ []); expected = wrote 1 0 (511 ∷ []) (0xFF ∷ 0x03 ∷ []) }
     -- a value bit at a sound cell is ignored
     ∷ record { call = zeroWrite 1 [] (3 ∷ []) (0 ∷ 0 ∷ []); expected = wrote 0 0 [] (0 ∷ 0 ∷ []) }
     -- an active entry stays though its cell is sound, and takes the new data bit: 0, and 1
     ∷ record { call = zeroWrite 2 [] [] (0x0A ∷ 0x0C ∷ 0x00 ∷ []); expected = wrote 1 0 [] (0x0A ∷ 0x08 ∷ 0x00 ∷ []) }
     ∷ record { call = pointerWrite 2 (ones (5 ∷ [])) (ones []) (ones []) old (0x0A ∷ 0x08 ∷ 0x00 ∷ []); expected = wrote 1 0 (5 ∷ []) (0x0A ∷ 0x0C ∷ 0x00 ∷ []) }
+    -- also though its cell is stuck at the right value
+    ∷ record { call = stuckWrite 2 5 (5 ∷ []) (0x0A ∷ 0x08 ∷ 0x00 ∷ []); expected = wrote 1 0 (5 ∷ []) (0x0A ∷ 0x0C ∷ 0x00 ∷ []) }
     -- it keeps its place: it names 300, and the new entry after it 3. Two are active, and one of them is new
     ∷ record { call = zeroWrite 2 (3 ∷ []) (3 ∷ []) (0x58 ∷ 0x0A ∷ 0x00 ∷ []); expected = wrote 2 1 (3 ∷ []) (0x59 ∷ 0x1A ∷ 0x00 ∷ []) }
-    -- two of them keep their order, which need not rise: the first names 300, the second 3
+    -- two active entries keep their order, which need not rise: the first names 300, the second 3
     ∷ record { call = zeroWrite 3 [] [] (0x58 ∷ 0x1A ∷ 0x60 ∷ 0x00 ∷ []); expected = wrote 2 0 [] (0x58 ∷ 0x1A ∷ 0x60 ∷ 0x00 ∷ []) }
-    -- it stays though its cell is stuck at the right value, and takes the new data bit
-    ∷ record { call = stuckWrite 2 5 (5 ∷ []) (0x0A ∷ 0x08 ∷ 0x00 ∷ []); expected = wrote 1 0 (5 ∷ []) (0x0A ∷ 0x0C ∷ 0x00 ∷ []) }
-    -- of data 1: a cell stuck at 0 holds 0 and gets an entry, a cell stuck at 1 gets none
-    ∷ record { call = stuckWrite 1 3 [] (0 ∷ 0 ∷ []); expected = wrote 1 1 [] (0x07 ∷ 0x04 ∷ []) }
-    ∷ record { call = stuckWrite 1 3 (3 ∷ []) (0 ∷ 0 ∷ []); expected = wrote 0 0 (3 ∷ []) (0 ∷ 0 ∷ []) }
     -- an entry between the last active one and the last is 0
     ∷ record { call = zeroWrite 3 (3 ∷ []) (3 ∷ []) (0 ∷ 0 ∷ 0 ∷ 0 ∷ []); expected = wrote 1 1 (3 ∷ []) (0x06 ∷ 0x00 ∷ 0x20 ∷ 0x00 ∷ []) }
     -- n may be 10, and nine ones fill the field in which the last entry counts; so many are read back
