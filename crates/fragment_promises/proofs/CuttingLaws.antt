@@ -129,7 +129,7 @@ joined-lumps t u m n k bss out a after r o c f =
     }
 
 pub empty-lump : EmptyLump
-empty-lump t s d = lump-empty t s d
+empty-lump = lump-empty
 
 pub finish-between : FinishBetween
 finish-between t u [] es′ out (ends d c) = c
@@ -144,23 +144,23 @@ starts-afresh h m n k (e ∷ es) es′ = starts-afresh (tell h e) m n k es es′
 -- ---- refusals that stay
 
 pub every-start : EveryStart
-every-start m n k s d = record { bad = hit (d .first); good = λ r. missed (miss (d .first) (λ h. h r)) }
+every-start m n k x u d = record { bad = hit (d .first); good = λ r. missed (miss (d .first) (λ h. h r)) }
 
 pub not-taken : NotTaken
-not-taken t bs s d h = d .kept (refused-number t bs _ (d .first) h)
+not-taken t u bs x d h = d .kept (refused-number t bs x (d .first) h)
 
 pub stays : Stays
-stays t u es r q none = refl
-stays t u es r q (starts d c) = absurd q
-stays t u es r q (takes {bs} {s} {es = fs} d c) =
-    let e = lump-unchanged t bs s d r in stays (s .transfer) u fs (subst Refused (sym e) r) q c ∙ e
-stays t u es r q (ends {es = fs} d c) = stays t u fs r q c
+stays t v es r q none = refl
+stays t v es r q (starts d c) = absurd q
+stays t v es r q (takes {bs} {x} {u = u} {es = fs} d c) =
+    let e = lump-unchanged t u bs x d r in stays u v fs (subst Refused (sym e) r) q c ∙ e
+stays t v es r q (ends {es = fs} d c) = stays t v fs r q c
 
 pub ever-after : EverAfter
 ever-after t u v m n k es more c c′ q r l =
     let (good, over) = too-long t u m n k es c r l in
     let same : v ≡ u = stays u v more (inr over) q c′ in
     subst Nine (sym same) (record {
-      lumps = λ bs s d. hit (miss (d .first) (λ h. h good)) (omega arith);
+      lumps = λ bs x w d. hit (miss (d .first) (λ h. h good)) (omega arith);
       finishes = λ out a after d. refused-long _ _ _ _ _ out a after d good over;
     })

@@ -14,7 +14,6 @@ use Rattle.grid_promises.specs.Promises.{Read}
 use Rattle.grid_promises.specs.declared.ReadAnswer.{ReadAnswer}
 use Rattle.grid_promises.specs.declared.Answer.{Answer}
 use Rattle.fragment_promises.specs.declared.Transfer.{Transfer}
-use Rattle.fragment_promises.specs.declared.Step.{Step}
 use Rattle.fragment_promises.specs.Transfers.{counterBytes, size, sizeOf, countersOf, cellsOf, wordBytes, started, lumped}
 use Rattle.fragment_promises.specs.Demands.{Good, StartDemands, LumpDemands, FinishDemands}
 use Rattle.fragment_promises.specs.Promises.{FinishesBy}
@@ -26,11 +25,11 @@ pub data Event : Type 0 where
   lump : (bs : List ℕ) → Event
   finish : (out : List ℕ) → Event
 
--- each is handed the record that the one before left, and keeps what is demanded of it. A finish hands no record back
+-- each is lent the record as the one before left it, and keeps what is demanded of it. A finish only reads it
 pub data Calls : Transfer → List Event → Transfer → Type 0 where
   none : {t : Transfer} → Calls t [] t
-  starts : {m n k : ℕ} {s : Step} {t v : Transfer} {es : List Event} → StartDemands m n k s → Calls (s .transfer) es v → Calls t (start m n k ∷ es) v
-  takes : {bs : List ℕ} {s : Step} {t v : Transfer} {es : List Event} → LumpDemands t bs s → Calls (s .transfer) es v → Calls t (lump bs ∷ es) v
+  starts : {m n k x : ℕ} {t u v : Transfer} {es : List Event} → StartDemands m n k x u → Calls u es v → Calls t (start m n k ∷ es) v
+  takes : {bs : List ℕ} {x : ℕ} {t u v : Transfer} {es : List Event} → LumpDemands t bs x u → Calls u es v → Calls t (lump bs ∷ es) v
   ends : {out after : List ℕ} {a : ReadAnswer} {t v : Transfer} {es : List Event} → FinishesBy t out a after → Calls t es v → Calls t (finish out ∷ es) v
 
 -- the record that the definitions make of them
@@ -79,8 +78,8 @@ whole h = size (h .rows) (h .columns) (h .k)
 -- a lump: 1 for bad numbers, 9 where more was sent than the block has, this lump included
 abbrev pub EveryLump : Type 0
 EveryLump =
-    (t u : Transfer) (m n k : ℕ) (es : List Event) (bs : List ℕ) (s : Step) → Calls t (start m n k ∷ es) u → LumpDemands u bs s
-    → let h = tell (story (begun m n k) es) (lump bs) in First ((1 when (Fine h → ⊥)) ∷ (9 when (whole h < length (h .sent))) ∷ []) (s .number)
+    (t u v : Transfer) (m n k : ℕ) (es : List Event) (bs : List ℕ) (x : ℕ) → Calls t (start m n k ∷ es) u → LumpDemands u bs x v
+    → let h = tell (story (begun m n k) es) (lump bs) in First ((1 when (Fine h → ⊥)) ∷ (9 when (whole h < length (h .sent))) ∷ []) x
 
 -- after a start and any calls every finish ends as P says of their story
 abbrev pub AfterCalls : (Story → List ℕ → ReadAnswer → List ℕ → Type 0) → Type 0
@@ -140,12 +139,12 @@ Bad = AfterCalls (λ h out a after. (Fine h → ⊥) → RefusedWith 1 out a aft
 -- ---- 1 at the start, and 9 there and ever after
 
 -- a start itself answers 1 for bad numbers, and else 0
-pub record StartAnswers (m n k : ℕ) (s : Step) : Type 0 where
-  pub bad : (InRange m n k → ⊥) → s .number ≡ 1
-  pub good : InRange m n k → s .number ≡ 0
+pub record StartAnswers (m n k x : ℕ) : Type 0 where
+  pub bad : (InRange m n k → ⊥) → x ≡ 1
+  pub good : InRange m n k → x ≡ 0
 
 abbrev pub EveryStart : Type 0
-EveryStart = (m n k : ℕ) (s : Step) → StartDemands m n k s → StartAnswers m n k s
+EveryStart = (m n k x : ℕ) (u : Transfer) → StartDemands m n k x u → StartAnswers m n k x
 
 -- calls without a start
 abbrev pub NoStart : List Event → Type 0
@@ -156,7 +155,7 @@ NoStart (finish out ∷ es) = NoStart es
 
 -- lumps and finishes of this record answer 9
 pub record Nine (v : Transfer) : Type 0 where
-  pub lumps : (bs : List ℕ) (s : Step) → LumpDemands v bs s → s .number ≡ 9
+  pub lumps : (bs : List ℕ) (x : ℕ) (w : Transfer) → LumpDemands v bs x w → x ≡ 9
   pub finishes : (out : List ℕ) (a : ReadAnswer) (after : List ℕ) → FinishesBy v out a after → RefusedWith 9 out a after
 
 -- more bytes were sent than the block has: 9, and so after any further calls without a start
@@ -167,7 +166,8 @@ EverAfter =
 
 -- a refused lump leaves the bytes that are held, and all others
 abbrev pub NotTaken : Type 0
-NotTaken = (t : Transfer) (bs : List ℕ) (s : Step) → LumpDemands t bs s → (Good t → ⊥) ⊎ (sizeOf t < t .taken + length bs) → s .transfer .bytes ≡ t .bytes
+NotTaken =
+    (t u : Transfer) (bs : List ℕ) (x : ℕ) → LumpDemands t bs x u → (Good t → ⊥) ⊎ (sizeOf t < t .taken + length bs) → u .bytes ≡ t .bytes
 
 -- ---- one start and lumps alone
 
@@ -207,7 +207,7 @@ AnyCutting =
 
 -- a lump of no bytes leaves any record as it is
 abbrev pub EmptyLump : Type 0
-EmptyLump = (t : Transfer) (s : Step) → LumpDemands t [] s → s .transfer ≡ t
+EmptyLump = (t u : Transfer) (x : ℕ) → LumpDemands t [] x u → u ≡ t
 
 -- so does a finish: calls with it left out are calls from the same record to the same record
 abbrev pub FinishBetween : Type 0

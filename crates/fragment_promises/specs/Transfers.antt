@@ -9,7 +9,6 @@ use Rattle.bits.specs.Bits.{list, number, digits}
 use Rattle.rdis.specs.Packing.{width, bytesFor}
 use Rattle.grid_promises.specs.Calls.{inRange, readNumber}
 use Rattle.fragment_promises.specs.declared.Transfer.{Transfer}
-use Rattle.fragment_promises.specs.declared.Step.{Step}
 
 -- ---- a block's bytes: the packed counters, then the cell words of 8 bytes, the lowest byte first
 
@@ -51,6 +50,9 @@ finishNumber m n k taken bs out =
 
 -- ---- the record
 
+abbrev pub transfer : ℕ → ℕ → ℕ → ℕ → List ℕ → Transfer
+transfer m n k taken bytes = record { rows = m; columns = n; k = k; taken = taken; bytes = bytes }
+
 abbrev pub standingOf : Transfer → ℕ
 standingOf t = standing (t .rows) (t .columns) (t .k) (t .taken)
 
@@ -83,7 +85,3 @@ noted t = record { rows = t .rows; columns = t .columns; k = t .k; taken = 561; 
 -- after a lump; a record that stands at a refusal stays as it is
 unfoldable pub lumped : Transfer → List ℕ → Transfer
 lumped t bs = cond (eqb (standingOf t) 0) (cond (leb (t .taken + length bs) (sizeOf t)) (extended t bs) (noted t)) t
-
--- what a start and a lump answer: the record, and what it stands at
-abbrev pub stepTo : Transfer → Step
-stepTo t = record { number = standingOf t; transfer = t }

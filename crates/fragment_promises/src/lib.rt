@@ -13,10 +13,3 @@ pub struct Transfer {
     pub taken: usize,
     pub bytes: [u8; LONGEST],
 }
-
-// What a start and a lump answer: 0 or the number of the refusal, and the transfer from here on.
-#[repr(C)]
-pub struct Step {
-    pub number: usize,
-    pub transfer: Transfer,
-}
