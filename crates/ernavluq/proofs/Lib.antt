@@ -1,0 +1,5 @@
+mod Param
+mod LentField
+mod LentAll
+mod LentBytes
+mod SharedBytes
