@@ -32,7 +32,7 @@ widths = sorted({WIDTHS[p] for p in params if p in WIDTHS})
 uses += [f'{here}.Param.{{{", ".join(kinds)}}}', f'{here}.{lemma}.{{meets}}', f'{there}.Symbol as {C}-def', f'{there}.Symbol.{{name as {core_key}}}',
          f'{there}.Met as {C}-thm', f'{here}.{fn}.Key.{{name as {key}}}', f'{here}.{fn} as {F}', f'{here}.{fn}.Statement as stated',
          f'{here}.{fn}.Code as code']
-uses = [f'mir.Syntax.{{{", ".join(widths)}}}', 'contract.Running.{givenOf, tables, tablesOf}', 'denote.Triple.Spec.{tripleOf}',
+uses = [f'mir.Syntax.{{{", ".join(widths)}}}'] * bool(widths) + ['contract.Running.{givenOf, tables, tablesOf}', 'denote.Triple.Spec.{tripleOf}',
         'denote.Triple.Table.{entered, cited}'] + uses
 
 print(f'-- Made by tools/make.sh. `{fn}` meets its contract: it has the form of `{lemma}.antt`, and its callee is `{core}`. Assumes nothing.')

@@ -30,6 +30,7 @@ proof() {
 lemma LentAll mut rows,columns,k,taken,bytes - - 3
 lemma LentBytes mut taken,bytes rows,columns,k imm 0
 lemma SharedBytes shr bytes rows,columns,k,taken mut 0
+lemma SharedNumbers shr - rows,columns,k,taken - 0
 
 proof start fragments.start_at LentAll \
     'λ l1 l2 l3 l4 l5 m n k r z1 z2 z3 z4 z5. Start m n k r (transfer z1 z2 z3 z4 z5)' 'λ h m n k r u. Start m n k r u' 'λ h m n k r z1 z2 z3 z4 z5 was e. e' \
@@ -42,3 +43,5 @@ proof lump fragments.lump_at LentBytes \
 proof finish fragments.finish_at SharedBytes \
     'λ l m n k c s r t. Finishes (transfer m n k c l) s r t' 'λ h s r t. Finishes h s r t' 'λ h s r t was e. e' \
     u64 grid_promises.ReadAnswer -- 'Rattle.fragment_promises.specs.Promises.{Finishes}' 'Rattle.fragment_promises.specs.Transfers.{transfer}'
+proof missing fragments.missing SharedNumbers 'λ m n k c r. Missing m n k c r' 'λ h r. Misses h r' 'λ h r was e. e' \
+    fragment_promises.MissingAnswer -- 'Rattle.fragment_promises.specs.Promises.{Missing, Misses}'

@@ -3,3 +3,4 @@ mod LentField
 mod LentAll
 mod LentBytes
 mod SharedBytes
+mod SharedNumbers

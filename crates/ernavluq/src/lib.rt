@@ -5,7 +5,7 @@ ghost use Rattle.pointer_promises.specs.Promises as Pointer;
 ghost use Rattle.grid_promises.specs.Promises as Grid;
 ghost use Rattle.grid_promises.specs.Calls.{block};
 ghost use Rattle.grid_promises.specs.Conversion.{Convert};
-ghost use Rattle.fragment_promises.specs.Promises.{Start, Lump, Finishes};
+ghost use Rattle.fragment_promises.specs.Promises.{Start, Lump, Finishes, Misses};
 
 #[no_mangle]
 pub extern "C" fn ernavluq_pointer_read_r2(
@@ -139,4 +139,17 @@ pub extern "C" fn ernavluq_transfer_finish_r2(
     let k = t.k;
     let taken = t.taken;
     fragments::finish_at(&t.bytes, rows, columns, k, taken, out)
+}
+
+#[no_mangle]
+pub extern "C" fn ernavluq_transfer_missing_r2(
+    t: &fragment_promises::Transfer,
+) -> fragment_promises::MissingAnswer
+    ensures { λ r. ⌜ Misses (now (t .entry)) r ⌝ }
+{
+    let rows = t.rows;
+    let columns = t.columns;
+    let k = t.k;
+    let taken = t.taken;
+    fragments::missing(rows, columns, k, taken)
 }

@@ -13,10 +13,11 @@ use Rattle.grid_promises.specs.Refusals.{InRange}
 use Rattle.grid_promises.proofs.RefusalLaws.{in-range}
 use Rattle.grid_promises.specs.declared.ReadAnswer.{ReadAnswer}
 use Rattle.fragment_promises.specs.declared.Transfer.{Transfer}
+use Rattle.fragment_promises.specs.declared.MissingAnswer.{MissingAnswer}
 use Rattle.fragment_promises.specs.Transfers.{size, sizeOf, standingOf, held, started, lumped}
-use Rattle.fragment_promises.specs.Demands.{Told, Good, StartDemands, LumpDemands, finishRefusals, FinishDemands}
-use Rattle.fragment_promises.specs.Promises.{FinishesBy}
-use Rattle.fragment_promises.specs.Sequences.{Event, start, lump, finish, Calls, none, starts, takes, ends, run, AsDefined, Story, begun, tell, story, Fine, whole, EveryLump, EveryFinish}
+use Rattle.fragment_promises.specs.Demands.{Told, Good, StartDemands, LumpDemands, finishRefusals, FinishDemands, missingRefusals, MissingDemands}
+use Rattle.fragment_promises.specs.Promises.{FinishesBy, MissesBy}
+use Rattle.fragment_promises.specs.Sequences.{Event, start, lump, finish, Calls, none, starts, takes, ends, asks, run, AsDefined, Story, begun, tell, story, Fine, whole, EveryLump, EveryFinish, EveryMissing}
 use Rattle.fragment_promises.proofs.PutLaws.{length-put, take-put}
 use Rattle.fragment_promises.proofs.StandingLaws.{size-most, well-good, well-size, ill, by-lump}
 use Rattle.fragment_promises.proofs.StepLaws.{start-promise, one-start-by-demands, lump-exactly}
@@ -80,6 +81,7 @@ at-end h t v es (starts {m} {n} {k} {x} {u = u} {es = fs} d c) a = at-end (begun
 at-end h t v es (takes {bs} {x} {u = u} {es = fs} d c) a =
     at-end (tell h (lump bs)) u v fs c (subst (Agrees (tell h (lump bs))) (sym (lump-exactly t bs (a .room) x u d)) (at-lump h t bs a))
 at-end h t v es (ends {es = fs} d c) a = at-end h t v fs c a
+at-end h t v es (asks {es = fs} d c) a = at-end h t v fs c a
 
 agree : (t v : Transfer) (m n k : ℕ) (es : List Event) → Calls t (start m n k ∷ es) v → Agrees (story (begun m n k) es) v
 agree t v m n k es (starts {x = x} {u = u} d c) = at-end (begun m n k) u v es c (at-start m n k x u d)
@@ -136,6 +138,19 @@ module _ (h : Story) (t : Transfer) (a : Agrees h t) where
         (λ r l o. refused 9 (omega arith) (λ e. omega arith) (hit (miss (f .first) (λ n. n r)) o) (record { found = inr (λ n. n r, inl (omega (arith, same-size), refl)) }))
         (λ r p q. subst (λ X. X) (λ i. FinishDemands (t .rows) (t .columns) (t .k) (p i) (q i) out b after) f))
 
+  module _ (b : MissingAnswer) (f : MissesBy t b) where
+    uncounted : (x : ℕ) → 0 < x → b .number ≡ x → First (missingRefusals (t .rows) (t .columns) (t .k) (length (h .sent))) x
+        → MissingDemands (t .rows) (t .columns) (t .k) (length (h .sent)) b
+    uncounted x l p q = record { first = subst (First _) (sym p) q; completes = λ z. absurd (omega arith); none = f .none }
+
+    same-missing : MissingDemands (h .rows) (h .columns) (h .k) (length (h .sent)) b
+    same-missing =
+        subst (λ X. X) (λ i. MissingDemands (a .told .rows i) (a .told .columns i) (a .told .levels i) (length (h .sent)) b)
+        (by-story (MissingDemands (t .rows) (t .columns) (t .k) (length (h .sent)) b)
+        (λ n. uncounted 1 (omega arith) (hit (f .first) n) (record { found = inl (n, refl) }))
+        (λ r l o. uncounted 9 (omega arith) (hit (miss (f .first) (λ n. n r)) o) (record { found = inr (λ n. n r, inl (omega (arith, same-size), refl)) }))
+        (λ r p q. subst (λ c. MissingDemands (t .rows) (t .columns) (t .k) c b) p f))
+
 -- ---- the record is the one that the definitions make
 
 start-exactly : (m n k x : ℕ) (u : Transfer) → StartDemands m n k x u → u ≡ started m n k
@@ -146,6 +161,7 @@ as-run t v es room none = refl
 as-run t v es room (starts {m} {n} {k} {x} {u = u} {es = fs} d c) = as-run u v fs (d .room) c ∙ ap (λ u. run u fs) (start-exactly m n k x u d)
 as-run t v es room (takes {bs} {x} {u = u} {es = fs} d c) = as-run u v fs (d .room ∙ room) c ∙ ap (λ u. run u fs) (lump-exactly t bs room x u d)
 as-run t v es room (ends {es = fs} d c) = as-run t v fs room c
+as-run t v es room (asks {es = fs} d c) = as-run t v fs room c
 
 pub as-defined : AsDefined
 as-defined t v m n k es (starts {x = x} {u = u} d c) = as-run u v es (d .room) c ∙ ap (λ u. run u es) (start-exactly m n k x u d)
@@ -163,6 +179,9 @@ too-long t u m n k es c r l =
 
 pub every-lump : EveryLump
 every-lump t u v m n k es bs x c d = same-lump (story (begun m n k) es) u (agree t u m n k es c) bs x v d
+
+pub every-missing : EveryMissing
+every-missing t u m n k es a c f = same-missing (story (begun m n k) es) u (agree t u m n k es c) a f
 
 pub every-finish : EveryFinish
 every-finish t u m n k es out a after c f = same-finish (story (begun m n k) es) u (agree t u m n k es c) out a after f

@@ -1,4 +1,4 @@
--- What is demanded of a start, a lump and a finish: facts about the arguments and what is left, a field each. They cite no computed number and no list of cells,
+-- What is demanded of a start, a lump, a finish and a count of what is missing: facts about the arguments and what is left, a field each. They cite no computed number and no list of cells,
 -- and they alone leave one answer (Promises.antt). x is the number that a call answers, t the record that it is lent, and u that record afterwards.
 -- Assumes nothing.
 use Prim.Native.Nat.{ℕ, _+_, _*_, _<_, _≤_}
@@ -15,6 +15,7 @@ use Rattle.grid_promises.specs.Refusals.{InRange, Spare, Held, Above, inverted}
 use Rattle.grid_promises.specs.Demands.{Names}
 use Rattle.grid_promises.specs.declared.ReadAnswer.{ReadAnswer}
 use Rattle.fragment_promises.specs.declared.Transfer.{Transfer}
+use Rattle.fragment_promises.specs.declared.MissingAnswer.{MissingAnswer}
 use Rattle.fragment_promises.specs.Transfers.{counterBytes, size, sizeOf, countersOf}
 
 -- the record has these numbers
@@ -98,3 +99,16 @@ pub record FinishDemands (m n k taken : ℕ) (bs out : List ℕ) (answer : ReadA
   -- each cell by itself, as a read
   pub shows : answer .number ≡ 0 → (i j x y : ℕ) → i < m → j < n → Held (width k) (countersOf m n k bs) i x → Held (width k) (countersOf m n k bs) (m + j) y
       → bit after i j ≡ inverted x y (cellBit m n k bs i j)
+
+-- ---- how many bytes are missing: so many were taken
+
+-- the refusals that a record has noted, in the order in which they are judged
+abbrev pub missingRefusals : ℕ → ℕ → ℕ → ℕ → List Refusal
+missingRefusals m n k taken = (1 when (InRange m n k → ⊥)) ∷ (9 when (size m n k < taken)) ∷ []
+
+pub record MissingDemands (m n k taken : ℕ) (answer : MissingAnswer) : Type 0 where
+  pub first : First (missingRefusals m n k taken) (answer .number)
+  -- with those that were taken they are all that the block has
+  pub completes : answer .number ≡ 0 → answer .bytes + taken ≡ size m n k
+  -- a refusal counts nothing
+  pub none : 0 < answer .number → answer .bytes ≡ 0

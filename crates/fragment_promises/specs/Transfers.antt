@@ -1,6 +1,6 @@
 -- A grid block that arrives in lumps: its bytes, the record that is carried from call to call, and what each call makes of it. m are the rows, n the columns,
 -- k is K. Assumes nothing.
-use Prim.Native.Nat.{ℕ, _+_, _*_}
+use Prim.Native.Nat.{ℕ, _+_, _-_, _*_}
 use mathlib.Core.Bool.{not, cond}
 use mathlib.Core.List.{List, [], _∷_, _++_}
 use lib.Dec.{eqb, leb, ltb}
@@ -47,6 +47,10 @@ finishNumber m n k taken bs out =
     cond (not (inRange m n k)) 1
     (cond (ltb (size m n k) taken) 9
     (cond (not (eqb out m)) 2 (cond (ltb (length bs) (size m n k)) 8 (readNumber m n k (cellsOf m n k bs) (countersOf m n k bs) out))))
+
+-- how many bytes of the block are missing where so many were taken: none are counted where the record stands at a refusal
+unfoldable pub missing : ℕ → ℕ → ℕ → ℕ → ℕ
+missing m n k taken = cond (eqb (standing m n k taken) 0) (size m n k - taken) 0
 
 -- ---- the record
 

@@ -13,3 +13,10 @@ pub struct Transfer {
     pub taken: usize,
     pub bytes: [u8; LONGEST],
 }
+
+// How many bytes of its block a transfer still lacks: 0 or the number of the refusal, and the bytes.
+#[repr(C)]
+pub struct MissingAnswer {
+    pub number: usize,
+    pub bytes: usize,
+}

@@ -1,6 +1,7 @@
 // A grid read of a block that arrives in lumps: a start, lumps of bytes cut anywhere, and a finish, which is the read of the joined bytes.
 // `start_at`, `lump_at` and `finish_at` are lent the fields of a transfer and copy none of them; `start`, `lump` and `finish` take and return a whole one.
 use fragment_promises::LONGEST;
+use fragment_promises::MissingAnswer;
 use fragment_promises::Transfer;
 use grid_promises::ReadAnswer;
 use grid_sets::LINES;
@@ -18,7 +19,7 @@ ghost use Rattle.grid_promises.specs.Refusals.{InRange};
 ghost use Rattle.grid_promises.specs.Promises.{Read};
 ghost use Rattle.fragment_promises.specs.Transfers.{counterBytes, size as sizeIs, standing as standingIs, countersOf, cellsOf, wordsFrom, transfer};
 ghost use Rattle.fragment_promises.specs.Demands.{lengthRefusals};
-ghost use Rattle.fragment_promises.specs.Promises.{Start, Lump, Finish, Finishes};
+ghost use Rattle.fragment_promises.specs.Promises.{Start, Lump, Finish, Finishes, Missing};
 ghost use Rattle.fragments.specs.Steps.{Judges};
 
 // After a refused lump so many bytes count as taken: more than any block has.
@@ -165,6 +166,18 @@ pub fn lump(t: Transfer, bytes: &[u8]) -> Step
         bytes: held,
     };
     Step { number, transfer }
+}
+
+// How many bytes of the block are missing, where so many were taken.
+pub fn missing(rows: usize, columns: usize, k: usize, taken: usize) -> MissingAnswer
+    ensures { λ r. ⌜ Missing rows columns k taken r ⌝ }
+{
+    let number = standing(rows, columns, k, taken);
+    if number != ACCEPTED {
+        return MissingAnswer { number, bytes: 0 };
+    }
+    let bytes = size(rows, columns, k) - taken;
+    MissingAnswer { number, bytes }
 }
 
 // The refusal of a finish by numbers and lengths, where so many bytes count as taken and so many are held: 1, 9, 2, 8 or else 0.
