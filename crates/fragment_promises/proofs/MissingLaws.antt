@@ -1,7 +1,6 @@
 -- How many bytes are missing: what is demanded holds of the count, and nothing else keeps it. Assumes nothing.
-use Prim.Native.Nat.{ℕ, _+_, _-_}
+use Prim.Native.Nat.{ℕ, _+_}
 use mathlib.Core.Path.{_≡_, refl, sym, ap, subst, _∙_}
-use mathlib.Core.Bool.{cond}
 use mathlib.Core.Logic.{_≢_, ⊎-elim}
 use native.Mathlib.Omega.{arith}
 use borrow.Author.Tests.{eq-eqb, ne-eqb}
@@ -21,12 +20,11 @@ module _ (m n k taken : ℕ) where
   -- nothing is counted where there is a refusal, and else what the block has more than was taken
   refused-none : standing m n k taken ≢ 0 → missing m n k taken ≡ 0
   unfolding missing
-  refused-none h = ap (λ b. cond b (size m n k - taken) 0) (ne-eqb (standing m n k taken) 0 h)
+  refused-none h = rw (ne-eqb (standing m n k taken) 0 h) refl
 
   accepted-rest : standing m n k taken ≡ 0 → missing m n k taken + taken ≡ size m n k
   unfolding missing
-  accepted-rest z =
-      ap (λ b. cond b (size m n k - taken) 0 + taken) (eq-eqb (standing m n k taken) 0 z) ∙ omega (arith, well-taken m n k taken z)
+  accepted-rest z = rw (eq-eqb (standing m n k taken) 0 z) (omega (arith, well-taken m n k taken z))
 
   -- an answer that is exactly so keeps the demands
   pub missing-promise : (a : MissingAnswer) → MissingExactly m n k taken a → Missing m n k taken a
