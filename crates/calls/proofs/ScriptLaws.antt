@@ -11,7 +11,6 @@ use lib.Seq.{take-suc-set, take-all}
 use Rattle.bits.proofs.FirstLaws.{first-under}
 use Rattle.grid_promises.specs.declared.ReadAnswer.{ReadAnswer}
 use Rattle.fragment_promises.specs.declared.Transfer.{Transfer}
-use Rattle.fragment_promises.specs.declared.Step.{Step}
 use Rattle.fragment_promises.specs.Promises.{Start, Lump, Finishes}
 use Rattle.fragment_promises.proofs.StepLaws.{one-start, one-lump}
 use Rattle.fragment_promises.proofs.FinishLaws.{one-finish}
@@ -20,12 +19,12 @@ use Rattle.calls.specs.Scripts.{next, Stepped, lump, start, finish, Afte
 
 -- ---- numbers are bytes
 
-pub start-small : (m n k : ℕ) (s : Step) → Start m n k s → s .number < 256
-start-small m n k s h = first-under 256 _ _ (lit< tt, lit< tt) (h .demands .first)
+pub start-small : (m n k x : ℕ) (u : Transfer) → Start m n k x u → x < 256
+start-small m n k x u h = first-under 256 _ _ (lit< tt, lit< tt) (h .demands .first)
 
 pub step-small : {m n k b used used′ x : ℕ} {bytes out after : List ℕ} {t u : Transfer} → Stepped m n k bytes b t used out x u used′ after → x < 256
 step-small (lump _ l) = first-under 256 _ _ (lit< tt, (lit< tt, lit< tt)) (l .demands .first)
-step-small (start _ h) = start-small _ _ _ _ h
+step-small (start _ h) = start-small _ _ _ _ _ h
 step-small (finish _ f _) = first-under 256 _ _ (lit< tt, (lit< tt, (lit< tt, (lit< tt, (lit< tt, (lit< tt, lit< tt)))))) (f .demands .first)
 
 -- ---- a step of the code
@@ -39,11 +38,11 @@ lump-part bytes used b c l e =
 next-length : (bytes : List ℕ) (used b : ℕ) → length (next bytes used b) ≡ min b (length bytes - used)
 next-length bytes used b = length-take b (drop used bytes) ∙ ap (min b) (length-drop used bytes)
 
-pub lump-step : {m n k used b : ℕ} {bytes out : List ℕ} {t : Transfer} {s : Step} (c : ℕ) → b < 256 → b ≢ 254 → b ≢ 255 → used ≤ length bytes → c ≡ min b (length bytes - used)
-    → Lump t (take (used + c - used) (drop used bytes)) s → Stepped m n k bytes b t used out (s .number) (s .transfer) (used + c) out
-lump-step {m} {n} {k} {used} {b} {bytes} {out} {t} {s} c p q r l e h =
-    subst (λ x. Stepped m n k bytes b t used out (s .number) (s .transfer) (used + x) out) (next-length bytes used b ∙ sym e)
-    (lump (omega arith) (subst (λ x. Lump t x s) (lump-part bytes used b c l e) h))
+pub lump-step : {m n k used b x : ℕ} {bytes out : List ℕ} {t u : Transfer} (c : ℕ) → b < 256 → b ≢ 254 → b ≢ 255 → used ≤ length bytes → c ≡ min b (length bytes - used)
+    → Lump t (take (used + c - used) (drop used bytes)) x u → Stepped m n k bytes b t used out x u (used + c) out
+lump-step {m} {n} {k} {used} {b} {x} {bytes} {out} {t} {u} c p q r l e h =
+    subst (λ more. Stepped m n k bytes b t used out x u (used + more) out) (next-length bytes used b ∙ sym e)
+    (lump (omega arith) (subst (λ bs. Lump t bs x u) (lump-part bytes used b c l e) h))
 
 step-length : {m n k b used used′ x : ℕ} {bytes out after : List ℕ} {t u : Transfer} → Stepped m n k bytes b t used out x u used′ after → length after ≡ length out
 step-length (lump _ _) = refl
@@ -67,14 +66,14 @@ pub record Running (m n k : ℕ) (bytes script before out steps : List ℕ) (t :
   pub after : After m n k bytes script before i t used out (take (i + 1) steps)
 
 module _ {m n k : ℕ} {bytes script before : List ℕ} where
-  pub run-start : {s : Step} (steps : List ℕ) → length steps ≡ length script + 1 → Start m n k s
-      → Running m n k bytes script before before (set steps 0 (s .number)) (s .transfer) 0 0
-  run-start {s} steps l h = record {
+  pub run-start : {x : ℕ} {u : Transfer} (steps : List ℕ) → length steps ≡ length script + 1 → Start m n k x u
+      → Running m n k bytes script before before (set steps 0 x) u 0 0
+  run-start {x} {u} steps l h = record {
     within = omega arith;
     left = omega arith;
     long = refl;
-    room = length-set steps 0 (s .number) ∙ l;
-    after = subst (After m n k bytes script before 0 (s .transfer) 0 before) (sym (take-suc-set steps 0 (s .number) (omega arith))) (started h);
+    room = length-set steps 0 x ∙ l;
+    after = subst (After m n k bytes script before 0 u 0 before) (sym (take-suc-set steps 0 x (omega arith))) (started h);
   }
 
   pub run-more : {i used used′ x : ℕ} {out after steps : List ℕ} {t u : Transfer} → Running m n k bytes script before out steps t used i → i < length script
@@ -107,8 +106,8 @@ module _ {m n k : ℕ} {bytes script before : List ℕ} where
 
 one-step : {m n k b used p p′ x x′ : ℕ} {bytes out after after′ : List ℕ} {t u u′ : Transfer} → Stepped m n k bytes b t used out x u p after
     → Stepped m n k bytes b t used out x′ u′ p′ after′ → (x ≡ x′) × (u ≡ u′) × (p ≡ p′) × (after ≡ after′)
-one-step (lump _ h) (lump _ g) = let e = one-lump _ _ _ _ h g in (ap (λ s. s .number) e, ap (λ s. s .transfer) e, refl, refl)
-one-step (start _ h) (start _ g) = let e = one-start _ _ _ _ _ h g in (ap (λ s. s .number) e, ap (λ s. s .transfer) e, refl, refl)
+one-step (lump _ h) (lump _ g) = let (e, f) = one-lump _ _ _ _ _ _ h g in (e, f, refl, refl)
+one-step (start _ h) (start _ g) = let (e, f) = one-start _ _ _ _ _ _ _ h g in (e, f, refl, refl)
 one-step (finish _ h _) (finish _ g _) = let (e, f) = one-finish _ _ _ _ _ _ _ _ _ _ (h .exactly) (g .exactly) in (ap (λ a. a .number) e, refl, refl, f)
 one-step (lump l _) (start e _) = absurd (omega arith)
 one-step (lump l _) (finish e _ _) = absurd (omega arith)
@@ -126,7 +125,7 @@ one-step-from {m} {n} {k} {b} {p = p} {x = x} {bytes = bytes} {after = after} {u
 module _ {m n k : ℕ} {bytes script out : List ℕ} where
   one-after : {i used used′ : ℕ} {t t′ : Transfer} {now now′ numbers numbers′ : List ℕ} → After m n k bytes script out i t used now numbers
       → After m n k bytes script out i t′ used′ now′ numbers′ → (t ≡ t′) × (used ≡ used′) × (now ≡ now′) × (numbers ≡ numbers′)
-  one-after (started h) (started g) = let e = one-start _ _ _ _ _ h g in (ap (λ s. s .transfer) e, refl, refl, ap (λ s. s .number ∷ []) e)
+  one-after (started h) (started g) = let (e, f) = one-start _ _ _ _ _ _ _ h g in (f, refl, refl, λ j. e j ∷ [])
   one-after (stepped a _ d) (stepped b _ g) =
       let (e, f, o, l) = one-after a b in
       let (x, u, p, z) = one-step-from e f o d g in

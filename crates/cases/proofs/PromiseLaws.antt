@@ -115,8 +115,8 @@ finish-line begun u out answer out′ f =
 
 promised-transfer : (m n k : ℕ) (calls : List Event) (out : List ℕ) → Promised (transfer m n k calls out) (line (transfer m n k calls out))
 unfolding line
-promised-transfer m n k calls out s u answer out′ b c f =
-    finish-line (s .number) u out answer out′ f ∙ ap₂ (λ x v. finished x v out) (ap (λ s. s .number) (b .exactly)) (as-defined (s .transfer) u m n k calls (starts (b .demands) c))
+promised-transfer m n k calls out x t u answer out′ b c f =
+    finish-line x u out answer out′ f ∙ ap₂ (λ x v. finished x v out) (b .exactly .number) (as-defined t u m n k calls (starts (b .demands) c))
 
 -- so every call's line is promised
 pub promised : (c : Call) → Promised c (line c)

@@ -10,7 +10,6 @@ use Rattle.grid_promises.specs.declared.ConvertAnswer.{ConvertAnswer}
 use Rattle.grid_promises.specs.declared.Answer as gridAnswer
 use Rattle.fragment_promises.specs.declared.Transfer.{Transfer}
 use Rattle.fragment_promises.specs.Transfers.{standingOf}
-use Rattle.fragment_promises.specs.declared.Step.{Step}
 use Rattle.fragment_promises.specs.Promises.{Start, Finishes}
 use Rattle.fragment_promises.specs.Sequences.{Calls}
 use Rattle.pointer_promises.specs.Pointer.{held, after, verdict}
@@ -67,8 +66,8 @@ Promised (gridConvert m n k k′ counters out) l =
     → record { numbers = answer .number ∷ answer .index ∷ []; buffers = out′ ∷ [] } ≡ l
 -- after the number and the index: what the start answered, and what the record stands at in the end
 Promised (transfer m n k calls out) l =
-    (s : Step) (u : Transfer) (answer : gridReadAnswer.ReadAnswer) (out′ : List ℕ) → Start m n k s → Calls (s .transfer) calls u → Finishes u out answer out′
-    → record { numbers = answer .number ∷ answer .index ∷ s .number ∷ standingOf u ∷ []; buffers = out′ ∷ [] } ≡ l
+    (x : ℕ) (t u : Transfer) (answer : gridReadAnswer.ReadAnswer) (out′ : List ℕ) → Start m n k x t → Calls t calls u → Finishes u out answer out′
+    → record { numbers = answer .number ∷ answer .index ∷ x ∷ standingOf u ∷ []; buffers = out′ ∷ [] } ≡ l
 
 -- each of these rows is promised
 abbrev pub Every : List Row → Type 0

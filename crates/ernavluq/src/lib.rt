@@ -1,13 +1,14 @@
-// The nine calls for programs in C and Rust, in the archive libernavluq.a. Each promises what the call behind it does; include/ernavluq.h declares them.
-// Their names have a prefix, because nothing keeps an exported name apart from those of the C library.
+// The calls for programs in C and Rust, in the archive libernavluq.a. Each promises what the call behind it does; include/ernavluq.h declares them.
+// Their names have a prefix, because nothing keeps an exported name apart from those of the C library, and the release behind it: what was compiled for another
+// release does not link. Callers write the plain names, which the header maps.
 ghost use Rattle.pointer_promises.specs.Promises as Pointer;
 ghost use Rattle.grid_promises.specs.Promises as Grid;
 ghost use Rattle.grid_promises.specs.Calls.{block};
 ghost use Rattle.grid_promises.specs.Conversion.{Convert};
-ghost use Rattle.fragment_promises.specs.Promises.{Start, Lump, Finishes};
+ghost use Rattle.fragment_promises.specs.Promises.{Start, Lump, Finishes, Misses};
 
 #[no_mangle]
-pub extern "C" fn ernavluq_pointer_read(
+pub extern "C" fn ernavluq_pointer_read_r2(
     n: usize,
     cells: &[u8],
     metadata: &[u8],
@@ -19,7 +20,7 @@ pub extern "C" fn ernavluq_pointer_read(
 }
 
 #[no_mangle]
-pub extern "C" fn ernavluq_pointer_write(
+pub extern "C" fn ernavluq_pointer_write_r2(
     n: usize,
     data: &[u8],
     mask: &[u8],
@@ -33,7 +34,7 @@ pub extern "C" fn ernavluq_pointer_write(
 }
 
 #[no_mangle]
-pub extern "C" fn ernavluq_grid_read(
+pub extern "C" fn ernavluq_grid_read_r2(
     rows: usize,
     columns: usize,
     k: usize,
@@ -47,7 +48,7 @@ pub extern "C" fn ernavluq_grid_read(
 }
 
 #[no_mangle]
-pub extern "C" fn ernavluq_grid_plan(
+pub extern "C" fn ernavluq_grid_plan_r2(
     rows: usize,
     columns: usize,
     k: usize,
@@ -62,7 +63,7 @@ pub extern "C" fn ernavluq_grid_plan(
 }
 
 #[no_mangle]
-pub extern "C" fn ernavluq_grid_store(
+pub extern "C" fn ernavluq_grid_store_r2(
     rows: usize,
     columns: usize,
     k: usize,
@@ -78,7 +79,7 @@ pub extern "C" fn ernavluq_grid_store(
 }
 
 #[no_mangle]
-pub extern "C" fn ernavluq_grid_convert(
+pub extern "C" fn ernavluq_grid_convert_r2(
     rows: usize,
     columns: usize,
     k: usize,
@@ -91,33 +92,64 @@ pub extern "C" fn ernavluq_grid_convert(
     grid::convert(rows, columns, k, to, counters, out)
 }
 
+// A transfer is lent, and so are its fields to the call behind: nothing of it is copied.
 #[no_mangle]
-pub extern "C" fn ernavluq_transfer_start(
+pub extern "C" fn ernavluq_transfer_start_r2(
+    t: &mut fragment_promises::Transfer,
     rows: usize,
     columns: usize,
     k: usize,
-) -> fragment_promises::Step
-    ensures { λ r. ⌜ Start rows columns k r ⌝ }
+) -> usize
+    ensures { λ r. ⌜ Start rows columns k r (now (t .exit)) ⌝ }
 {
-    fragments::start(rows, columns, k)
+    fragments::start_at(
+        &mut t.rows,
+        &mut t.columns,
+        &mut t.k,
+        &mut t.taken,
+        &mut t.bytes,
+        rows,
+        columns,
+        k,
+    )
 }
 
 #[no_mangle]
-pub extern "C" fn ernavluq_transfer_lump(
-    transfer: fragment_promises::Transfer,
+pub extern "C" fn ernavluq_transfer_lump_r2(
+    t: &mut fragment_promises::Transfer,
     bytes: &[u8],
-) -> fragment_promises::Step
-    ensures { λ r. ⌜ Lump transfer (now (bytes .entry)) r ⌝ }
+) -> usize
+    ensures { λ r. ⌜ Lump (now (t .entry)) (now (bytes .entry)) r (now (t .exit)) ⌝ }
 {
-    fragments::lump(transfer, bytes)
+    let rows = t.rows;
+    let columns = t.columns;
+    let k = t.k;
+    fragments::lump_at(&mut t.taken, &mut t.bytes, rows, columns, k, bytes)
 }
 
 #[no_mangle]
-pub extern "C" fn ernavluq_transfer_finish(
-    transfer: fragment_promises::Transfer,
+pub extern "C" fn ernavluq_transfer_finish_r2(
+    t: &fragment_promises::Transfer,
     out: &mut [u64],
 ) -> grid_promises::ReadAnswer
-    ensures { λ r. ⌜ Finishes transfer (now (out .entry)) r (now (out .exit)) ⌝ }
+    ensures { λ r. ⌜ Finishes (now (t .entry)) (now (out .entry)) r (now (out .exit)) ⌝ }
 {
-    fragments::finish(transfer, out)
+    let rows = t.rows;
+    let columns = t.columns;
+    let k = t.k;
+    let taken = t.taken;
+    fragments::finish_at(&t.bytes, rows, columns, k, taken, out)
+}
+
+#[no_mangle]
+pub extern "C" fn ernavluq_transfer_missing_r2(
+    t: &fragment_promises::Transfer,
+) -> fragment_promises::MissingAnswer
+    ensures { λ r. ⌜ Misses (now (t .entry)) r ⌝ }
+{
+    let rows = t.rows;
+    let columns = t.columns;
+    let k = t.k;
+    let taken = t.taken;
+    fragments::missing(rows, columns, k, taken)
 }

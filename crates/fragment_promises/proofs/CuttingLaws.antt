@@ -2,27 +2,29 @@
 use Prim.Native.Nat.{ℕ, _+_, _^_, _<_, _≤_}
 use mathlib.Core.Path.{_≡_, refl, sym, ap, subst, _∙_}
 use mathlib.Core.List.{List, [], _∷_, _++_, append-assoc, append-nil}
-use mathlib.Core.Logic.{_≢_, inr, ⊎-elim}
+use mathlib.Core.Logic.{_⊎_, _≢_, inl, inr, ⊎-elim}
 use native.Mathlib.Nat.{lt-of-lt-of-le, pow-le-pow-right}
 use native.Mathlib.Omega.{arith}
 use lib.ListN.{length}
 use Rattle.bits.specs.Bits.{Below}
 use Rattle.bits.proofs.FirstLaws.{hit, miss, missed}
+use Rattle.bits.proofs.TestLaws.{iff-stable}
 use Rattle.grid_promises.specs.Promises.{Read}
 use Rattle.grid_promises.specs.Refusals.{InRange}
 use Rattle.grid_promises.specs.declared.ReadAnswer.{ReadAnswer}
 use Rattle.grid_promises.proofs.OneAnswer.{one-read}
 use Rattle.grid_promises.proofs.ByDemands.{store-exactly}
-use Rattle.grid_promises.proofs.RefusalLaws.{store-accepted}
+use Rattle.grid_promises.proofs.RefusalLaws.{in-range, store-accepted}
 use Rattle.grid_promises.proofs.StoreDemands.{store-range, store-lengths, store-demands}
+use Rattle.fragment_promises.specs.declared.MissingAnswer.{MissingAnswer}
 use Rattle.fragment_promises.specs.Transfers.{counterBytes, size, wordBytes}
-use Rattle.fragment_promises.specs.Demands.{FinishDemands}
-use Rattle.fragment_promises.specs.Sequences.{lump, none, starts, takes, ends, Story, begun, tell, story}
-use Rattle.fragment_promises.specs.Sequences.{Whole, Sent, StoreThenSend, RefusedWith, Short, Long, Bad, lumps, joined, Joined, TwoCuttings, AnyCutting, EmptyLump, FinishBetween, StartsAfresh, EveryStart, Nine, EverAfter, NotTaken, WrongOutput, Refused, Stays}
+use Rattle.fragment_promises.specs.Demands.{FinishDemands, MissingDemands}
+use Rattle.fragment_promises.specs.Sequences.{lump, none, starts, takes, ends, asks, Story, begun, tell, story}
+use Rattle.fragment_promises.specs.Sequences.{Whole, Sent, StoreThenSend, RefusedWith, Short, Long, Bad, lumps, joined, Joined, NoneMissing, SomeMissing, TwoCuttings, AnyCutting, EmptyLump, FinishBetween, StartsAfresh, EveryStart, Nine, EverAfter, NotTaken, WrongOutput, Refused, Stays}
 use Rattle.fragment_promises.proofs.BlockLaws.{counters-back, cells-back, block-length, block-below}
 use Rattle.fragment_promises.proofs.FinishLaws.{demands-read, one-finish-by-demands}
 use Rattle.fragment_promises.proofs.StepLaws.{refused-number, lump-unchanged, lump-empty}
-use Rattle.fragment_promises.proofs.SequenceLaws.{too-long, every-finish}
+use Rattle.fragment_promises.proofs.SequenceLaws.{too-long, every-finish, every-missing}
 
 -- ---- a whole block
 
@@ -62,6 +64,13 @@ store-then-send t u b k es counters old cells out s a after d z few o c f e =
     let (same, filled) = one-read (b .rows) (b .columns) k cells counters out a _ after _ (read .exactly) (back .exactly) in
     (ap (λ x. x .number) same, filled)
 
+-- and by the number it is accepted, or refused for what the bytes hold
+judged-whole : (m n k : ℕ) (bs out : List ℕ) (a : ReadAnswer) (after : List ℕ) → FinishDemands m n k (length bs) bs out a after → InRange m n k
+    → length bs ≡ size m n k → length out ≡ m → (a .number ≡ 0) ⊎ (a .number ≡ 3) ⊎ (a .number ≡ 4)
+judged-whole m n k bs out a after d r all o =
+    let f = miss (miss (miss (miss (d .first) (λ h. h r)) (λ h. omega arith)) (λ h. h o)) (λ h. omega arith) in
+    ⊎-elim (λ (h, e). inr (inl e)) (λ (h, g). ⊎-elim (λ (h, e). inr (inr e)) (λ (h, z). inl z) g) (f .found)
+
 -- ---- refused
 
 module _ (m n k taken : ℕ) (bs out : List ℕ) (a : ReadAnswer) (after : List ℕ) (d : FinishDemands m n k taken bs out a after) where
@@ -97,6 +106,27 @@ pub bad-block : Bad
 bad-block t u m n k es out a after c f r =
     let h = story (begun m n k) es in refused-bad _ _ _ _ (h .sent) out a after (every-finish t u m n k es out a after c f) r
 
+-- ---- what is missing tells how a finish ends
+
+-- accepted: the numbers are good
+fine : (m n k taken : ℕ) (a : MissingAnswer) → MissingDemands m n k taken a → a .number ≡ 0 → InRange m n k
+fine m n k taken a d z = iff-stable _ (in-range m n k) (λ h. omega (arith, hit (d .first) h))
+
+pub none-missing : NoneMissing
+none-missing t u m n k es a c d z out b after f o y below =
+    let h = story (begun m n k) es in
+    let e = every-missing t u m n k es a c d in
+    let r = fine (h .rows) (h .columns) (h .k) (length (h .sent)) a e z in
+    let all : length (h .sent) ≡ size (h .rows) (h .columns) (h .k) = omega (arith, e .completes z, y) in
+    let read = whole-block t u m n k es out b after c f r below all in
+    (read, judged-whole (h .rows) (h .columns) (h .k) (h .sent) out b after (every-finish t u m n k es out b after c f) r all o)
+
+pub some-missing : SomeMissing
+some-missing t u m n k es a c d z out b after f o l =
+    let h = story (begun m n k) es in
+    let e = every-missing t u m n k es a c d in
+    short-block t u m n k es out b after c f (fine (h .rows) (h .columns) (h .k) (length (h .sent)) a e z) o (omega (arith, e .completes z))
+
 -- ---- what does not count
 
 pub any-cutting : AnyCutting
@@ -129,13 +159,14 @@ joined-lumps t u m n k bss out a after r o c f =
     }
 
 pub empty-lump : EmptyLump
-empty-lump t s d = lump-empty t s d
+empty-lump = lump-empty
 
 pub finish-between : FinishBetween
 finish-between t u [] es′ out (ends d c) = c
 finish-between t u (e ∷ es) es′ out (starts d c) = starts d (finish-between _ u es es′ out c)
 finish-between t u (e ∷ es) es′ out (takes d c) = takes d (finish-between _ u es es′ out c)
 finish-between t u (e ∷ es) es′ out (ends d c) = ends d (finish-between _ u es es′ out c)
+finish-between t u (e ∷ es) es′ out (asks d c) = asks d (finish-between _ u es es′ out c)
 
 pub starts-afresh : StartsAfresh
 starts-afresh h m n k [] es′ = refl
@@ -144,23 +175,25 @@ starts-afresh h m n k (e ∷ es) es′ = starts-afresh (tell h e) m n k es es′
 -- ---- refusals that stay
 
 pub every-start : EveryStart
-every-start m n k s d = record { bad = hit (d .first); good = λ r. missed (miss (d .first) (λ h. h r)) }
+every-start m n k x u d = record { bad = hit (d .first); good = λ r. missed (miss (d .first) (λ h. h r)) }
 
 pub not-taken : NotTaken
-not-taken t bs s d h = d .kept (refused-number t bs _ (d .first) h)
+not-taken t u bs x d h = d .kept (refused-number t bs x (d .first) h)
 
 pub stays : Stays
-stays t u es r q none = refl
-stays t u es r q (starts d c) = absurd q
-stays t u es r q (takes {bs} {s} {es = fs} d c) =
-    let e = lump-unchanged t bs s d r in stays (s .transfer) u fs (subst Refused (sym e) r) q c ∙ e
-stays t u es r q (ends {es = fs} d c) = stays t u fs r q c
+stays t v es r q none = refl
+stays t v es r q (starts d c) = absurd q
+stays t v es r q (takes {bs} {x} {u = u} {es = fs} d c) =
+    let e = lump-unchanged t u bs x d r in stays u v fs (subst Refused (sym e) r) q c ∙ e
+stays t v es r q (ends {es = fs} d c) = stays t v fs r q c
+stays t v es r q (asks {es = fs} d c) = stays t v fs r q c
 
 pub ever-after : EverAfter
 ever-after t u v m n k es more c c′ q r l =
     let (good, over) = too-long t u m n k es c r l in
     let same : v ≡ u = stays u v more (inr over) q c′ in
     subst Nine (sym same) (record {
-      lumps = λ bs s d. hit (miss (d .first) (λ h. h good)) (omega arith);
+      lumps = λ bs x w d. hit (miss (d .first) (λ h. h good)) (omega arith);
       finishes = λ out a after d. refused-long _ _ _ _ _ out a after d good over;
+      asks = λ a d. let e = hit (miss (d .first) (λ h. h good)) over in (e, d .none (omega arith));
     })

@@ -31,13 +31,13 @@ after-four = lumped (started 1 1 1) four
 abbrev pub after-nine : Transfer
 after-nine = lumped after-four five
 
-pub first-lump : Lump (started 1 1 1) four (record { number = 0; transfer = after-four })
+pub first-lump : Lump (started 1 1 1) four 0 after-four
 unfolding lumped standing size width bytesFor inRange
-first-lump = record { exactly = refl; demands = lump-demands (started 1 1 1) four refl }
+first-lump = record { exactly = record { number = refl; left = refl }; demands = lump-demands (started 1 1 1) four refl }
 
-pub second-lump : Lump after-four five (record { number = 0; transfer = after-nine })
+pub second-lump : Lump after-four five 0 after-nine
 unfolding lumped standing size width bytesFor inRange
-second-lump = record { exactly = refl; demands = lump-demands after-four five refl }
+second-lump = record { exactly = record { number = refl; left = refl }; demands = lump-demands after-four five refl }
 
 -- a lump of six ones is one byte too many: none of them is taken, and 561 bytes count as taken
 refused-lump : let t = lumped after-four (1 ∷ 1 ∷ 1 ∷ 1 ∷ 1 ∷ 1 ∷ []) in (t .taken ≡ 561) × (take 10 (t .bytes) ≡ 3 ∷ replicate 9 0)

@@ -9,7 +9,7 @@ use borrow.Author.Tests.{le-ltb}
 use lib.Dec.{eqb}
 use lib.ListN.{length}
 use Rattle.bits.specs.Bits.{words, Below}
-use Rattle.bits.specs.First.{First}
+use Rattle.bits.specs.First.{Refusal, First}
 use Rattle.bits.proofs.TestLaws.{lt-or-le, ltb-iff, eqb-iff, not-iff, or-iff, iff-stable}
 use Rattle.bits.proofs.FirstLaws.{hit, skip, last, first-one, first-test, first-none}
 use Rattle.bits.proofs.ByteLaws.{words-ext, is-words}
@@ -25,7 +25,7 @@ use Rattle.grid_promises.proofs.IndexLaws.{index-names, names-index}
 use Rattle.grid_promises.proofs.ReadDemands.{read-demands}
 use Rattle.grid_promises.proofs.OneAnswer.{same-shown, same-left}
 use Rattle.fragment_promises.specs.Transfers.{size, countersOf, cellsOf, finishNumber}
-use Rattle.fragment_promises.specs.Demands.{cellBit, finishRefusals, FinishDemands}
+use Rattle.fragment_promises.specs.Demands.{cellBit, lengthRefusals, finishRefusals, FinishDemands}
 use Rattle.fragment_promises.specs.Promises.{FinishExactly, Finish, OneFinish, OneFinishByDemands, FinishMeasured}
 use Rattle.fragment_promises.proofs.BlockLaws.{whole-lengths, cell-bit, past-bytes}
 
@@ -68,17 +68,17 @@ module _ (m n k taken : ℕ) (bs : List ℕ) where
   finish-four x out f z =
       last (skip (skip (skip (skip (skip f (λ e. omega arith)) (λ e. omega arith)) (λ e. omega arith)) (λ e. omega arith)) (λ e. omega arith)) (omega arith)
 
--- accepted: the numbers are good, no lump was refused, and all the bytes are there
-module _ (m n k taken : ℕ) (bs : List ℕ) (out x : ℕ) (f : First (finishRefusals m n k taken bs out) x) (z : x ≡ 0) where
+-- accepted: the numbers are good, no lump was refused, and all the bytes are there. What is judged after them does not count
+module _ (m n k taken held out : ℕ) (others : List Refusal) (x : ℕ) (f : First (lengthRefusals m n k taken held out others) x) (z : x ≡ 0) where
   pub accepted-range : InRange m n k
   accepted-range = iff-stable _ (in-range m n k) (λ h. omega (arith, hit f h))
 
   pub accepted-taken : taken ≤ size m n k
   accepted-taken = ⊎-elim (λ l. absurd (omega (arith, hit (skip f (λ e. omega arith)) l))) (λ l. l) (lt-or-le (size m n k) taken)
 
-  pub accepted-held : size m n k ≤ length bs
+  pub accepted-held : size m n k ≤ held
   accepted-held =
-      ⊎-elim (λ l. absurd (omega (arith, hit (skip (skip (skip f (λ e. omega arith)) (λ e. omega arith)) (λ e. omega arith)) l))) (λ l. l) (lt-or-le (length bs) (size m n k))
+      ⊎-elim (λ l. absurd (omega (arith, hit (skip (skip (skip f (λ e. omega arith)) (λ e. omega arith)) (λ e. omega arith)) l))) (λ l. l) (lt-or-le held (size m n k))
 
 -- ---- what is demanded
 
@@ -103,9 +103,9 @@ module _ (m n k taken : ℕ) (bs out : List ℕ) (a : ReadAnswer) (after : List 
   pub finish-promise : Below 256 bs → FinishExactly m n k taken bs out a after → Finish m n k taken bs out a after
   finish-promise h e =
       let found : First (finishRefusals m n k taken bs (length out)) (a .number) = subst (First (finishRefusals m n k taken bs (length out))) (sym (e .number)) (finish-first m n k taken bs (length out) h) in
-      let range = accepted-range m n k taken bs (length out) (a .number) found in
+      let range = accepted-range m n k taken (length bs) (length out) _ (a .number) found in
       let read : a .number ≡ 0 → Read m n k (cellsOf m n k bs) (countersOf m n k bs) out a after = λ z.
-      finish-whole e (range z) (accepted-taken m n k taken bs (length out) (a .number) found z) (accepted-held m n k taken bs (length out) (a .number) found z) in
+      finish-whole e (range z) (accepted-taken m n k taken (length bs) (length out) _ (a .number) found z) (accepted-held m n k taken (length bs) (length out) _ (a .number) found z) in
       record {
         exactly = e;
         demands = record {
@@ -128,7 +128,7 @@ module _ (m n k taken : ℕ) (bs out : List ℕ) (a : ReadAnswer) (after : List 
     indexIs = names-index k (m + n) (countersOf m n k bs) (a .number) (a .index) (d .names);
     untouched = d .untouched;
     shown = λ z.
-        let few = accepted-range m n k taken bs (length out) (a .number) (d .first) z .columns .1 in
+        let few = accepted-range m n k taken (length bs) (length out) _ (a .number) (d .first) z .columns .1 in
         let counters = countersOf m n k bs in
         demanded m n k taken bs out a after d z
         ∙ words-ext m n _ _ (λ i j p q. ap (inverted (counter (width k) counters i) (counter (width k) counters (m + j))) (sym (cell-bit m n k bs h i j p (omega arith))));

@@ -13,11 +13,11 @@ use Rattle.grid_promises.specs.Refusals.{InRange}
 use Rattle.grid_promises.proofs.RefusalLaws.{in-range}
 use Rattle.grid_promises.specs.declared.ReadAnswer.{ReadAnswer}
 use Rattle.fragment_promises.specs.declared.Transfer.{Transfer}
-use Rattle.fragment_promises.specs.declared.Step.{Step}
-use Rattle.fragment_promises.specs.Transfers.{size, sizeOf, standingOf, held, lumped}
-use Rattle.fragment_promises.specs.Demands.{Told, Good, StartDemands, LumpDemands, finishRefusals, FinishDemands}
-use Rattle.fragment_promises.specs.Promises.{FinishesBy}
-use Rattle.fragment_promises.specs.Sequences.{Event, start, lump, finish, Calls, none, starts, takes, ends, run, AsDefined, Story, begun, tell, story, Fine, whole, EveryLump, EveryFinish}
+use Rattle.fragment_promises.specs.declared.MissingAnswer.{MissingAnswer}
+use Rattle.fragment_promises.specs.Transfers.{size, sizeOf, standingOf, held, started, lumped}
+use Rattle.fragment_promises.specs.Demands.{Told, Good, StartDemands, LumpDemands, finishRefusals, FinishDemands, missingRefusals, MissingDemands}
+use Rattle.fragment_promises.specs.Promises.{FinishesBy, MissesBy}
+use Rattle.fragment_promises.specs.Sequences.{Event, start, lump, finish, Calls, none, starts, takes, ends, asks, run, AsDefined, Story, begun, tell, story, Fine, whole, EveryLump, EveryFinish, EveryMissing}
 use Rattle.fragment_promises.proofs.PutLaws.{length-put, take-put}
 use Rattle.fragment_promises.proofs.StandingLaws.{size-most, well-good, well-size, ill, by-lump}
 use Rattle.fragment_promises.proofs.StepLaws.{start-promise, one-start-by-demands, lump-exactly}
@@ -31,11 +31,11 @@ record Agrees (h : Story) (t : Transfer) : Type 0 where
 
 -- ---- through a start and a lump
 
-at-start : (m n k : ℕ) (s : Step) → StartDemands m n k s → Agrees (begun m n k) (s .transfer)
-at-start m n k s d = record {
+at-start : (m n k x : ℕ) (u : Transfer) → StartDemands m n k x u → Agrees (begun m n k) u
+at-start m n k x u d = record {
   told = d .told;
   room = d .room;
-  within = λ _ _. (d .none, ap (λ p. take p (s .transfer .bytes)) (d .none));
+  within = λ _ _. (d .none, ap (λ p. take p (u .bytes)) (d .none));
   over = λ _ l. absurd (omega arith);
 }
 
@@ -75,16 +75,16 @@ module _ (h : Story) (t : Transfer) (bs : List ℕ) (a : Agrees h t) where
         over = λ r g. omega (arith, size-most _ _ _ r);
       })
 
-at-end : (h : Story) (t u : Transfer) (es : List Event) → Calls t es u → Agrees h t → Agrees (story h es) u
-at-end h t u es none a = a
-at-end h t u es (starts {m} {n} {k} {s} {es = fs} d c) a = at-end (begun m n k) (s .transfer) u fs c (at-start m n k s d)
-at-end h t u es (takes {bs} {s} {es = fs} d c) a =
-    at-end (tell h (lump bs)) (s .transfer) u fs c
-    (subst (Agrees (tell h (lump bs))) (sym (ap (λ s. s .transfer) (lump-exactly t bs (a .room) s d))) (at-lump h t bs a))
-at-end h t u es (ends {es = fs} d c) a = at-end h t u fs c a
+at-end : (h : Story) (t v : Transfer) (es : List Event) → Calls t es v → Agrees h t → Agrees (story h es) v
+at-end h t v es none a = a
+at-end h t v es (starts {m} {n} {k} {x} {u = u} {es = fs} d c) a = at-end (begun m n k) u v fs c (at-start m n k x u d)
+at-end h t v es (takes {bs} {x} {u = u} {es = fs} d c) a =
+    at-end (tell h (lump bs)) u v fs c (subst (Agrees (tell h (lump bs))) (sym (lump-exactly t bs (a .room) x u d)) (at-lump h t bs a))
+at-end h t v es (ends {es = fs} d c) a = at-end h t v fs c a
+at-end h t v es (asks {es = fs} d c) a = at-end h t v fs c a
 
-agree : (t u : Transfer) (m n k : ℕ) (es : List Event) → Calls t (start m n k ∷ es) u → Agrees (story (begun m n k) es) u
-agree t u m n k es (starts {s = s} d c) = at-end (begun m n k) (s .transfer) u es c (at-start m n k s d)
+agree : (t v : Transfer) (m n k : ℕ) (es : List Event) → Calls t (start m n k ∷ es) v → Agrees (story (begun m n k) es) v
+agree t v m n k es (starts {x = x} {u = u} d c) = at-end (begun m n k) u v es c (at-start m n k x u d)
 
 -- ---- a record that agrees with a story answers as the story says
 
@@ -107,11 +107,11 @@ module _ (h : Story) (t : Transfer) (a : Agrees h t) where
       ⊎-elim (λ l. long r (omega (arith, same-size)) (a .over r l)) (λ l. held-all r (a .within r l .0) (a .within r l .1)) (lt-or-le (sizeOf t) (length (h .sent))))
       (λ e. bad (iff-false _ (in-range (t .rows) (t .columns) (t .k)) e)) (true-or-false (inRange (t .rows) (t .columns) (t .k)))
 
-  same-lump : (bs : List ℕ) (s : Step) → LumpDemands t bs s
-      → First ((1 when (Fine h → ⊥)) ∷ (9 when (whole h < length (h .sent ++ bs))) ∷ []) (s .number)
-  same-lump bs s d =
+  same-lump : (bs : List ℕ) (x : ℕ) (u : Transfer) → LumpDemands t bs x u
+      → First ((1 when (Fine h → ⊥)) ∷ (9 when (whole h < length (h .sent ++ bs))) ∷ []) x
+  same-lump bs x u d =
       let more : length (h .sent ++ bs) ≡ length (h .sent) + length bs = length-append (h .sent) bs in
-      by-story (First ((1 when (Fine h → ⊥)) ∷ (9 when (whole h < length (h .sent ++ bs))) ∷ []) (s .number))
+      by-story (First ((1 when (Fine h → ⊥)) ∷ (9 when (whole h < length (h .sent ++ bs))) ∷ []) x)
       (λ n. record { found = inl (λ r. n (fine-good r), hit (d .first) n) })
       (λ r l o. record { found = inr (λ n. n (good-fine r), inl (omega (arith, more), hit (miss (d .first) (λ n. n r)) (omega arith))) })
       (λ r e f. record {
@@ -138,19 +138,33 @@ module _ (h : Story) (t : Transfer) (a : Agrees h t) where
         (λ r l o. refused 9 (omega arith) (λ e. omega arith) (hit (miss (f .first) (λ n. n r)) o) (record { found = inr (λ n. n r, inl (omega (arith, same-size), refl)) }))
         (λ r p q. subst (λ X. X) (λ i. FinishDemands (t .rows) (t .columns) (t .k) (p i) (q i) out b after) f))
 
+  module _ (b : MissingAnswer) (f : MissesBy t b) where
+    uncounted : (x : ℕ) → 0 < x → b .number ≡ x → First (missingRefusals (t .rows) (t .columns) (t .k) (length (h .sent))) x
+        → MissingDemands (t .rows) (t .columns) (t .k) (length (h .sent)) b
+    uncounted x l p q = record { first = subst (First _) (sym p) q; completes = λ z. absurd (omega arith); none = f .none }
+
+    same-missing : MissingDemands (h .rows) (h .columns) (h .k) (length (h .sent)) b
+    same-missing =
+        subst (λ X. X) (λ i. MissingDemands (a .told .rows i) (a .told .columns i) (a .told .levels i) (length (h .sent)) b)
+        (by-story (MissingDemands (t .rows) (t .columns) (t .k) (length (h .sent)) b)
+        (λ n. uncounted 1 (omega arith) (hit (f .first) n) (record { found = inl (n, refl) }))
+        (λ r l o. uncounted 9 (omega arith) (hit (miss (f .first) (λ n. n r)) o) (record { found = inr (λ n. n r, inl (omega (arith, same-size), refl)) }))
+        (λ r p q. subst (λ c. MissingDemands (t .rows) (t .columns) (t .k) c b) p f))
+
 -- ---- the record is the one that the definitions make
 
-as-run : (t u : Transfer) (es : List Event) → length (t .bytes) ≡ 560 → Calls t es u → u ≡ run t es
-as-run t u es room none = refl
-as-run t u es room (starts {m} {n} {k} {s} {es = fs} d c) =
-    as-run (s .transfer) u fs (d .room) c ∙ ap (λ s. run (s .transfer) fs) (one-start-by-demands m n k s _ d (start-promise m n k .demands))
-as-run t u es room (takes {bs} {s} {es = fs} d c) =
-    as-run (s .transfer) u fs (d .room ∙ room) c ∙ ap (λ s. run (s .transfer) fs) (lump-exactly t bs room s d)
-as-run t u es room (ends {es = fs} d c) = as-run t u fs room c
+start-exactly : (m n k x : ℕ) (u : Transfer) → StartDemands m n k x u → u ≡ started m n k
+start-exactly m n k x u d = one-start-by-demands m n k x _ u _ d (start-promise m n k .demands) .1
+
+as-run : (t v : Transfer) (es : List Event) → length (t .bytes) ≡ 560 → Calls t es v → v ≡ run t es
+as-run t v es room none = refl
+as-run t v es room (starts {m} {n} {k} {x} {u = u} {es = fs} d c) = as-run u v fs (d .room) c ∙ ap (λ u. run u fs) (start-exactly m n k x u d)
+as-run t v es room (takes {bs} {x} {u = u} {es = fs} d c) = as-run u v fs (d .room ∙ room) c ∙ ap (λ u. run u fs) (lump-exactly t bs room x u d)
+as-run t v es room (ends {es = fs} d c) = as-run t v fs room c
+as-run t v es room (asks {es = fs} d c) = as-run t v fs room c
 
 pub as-defined : AsDefined
-as-defined t u m n k es (starts {s = s} d c) =
-    as-run (s .transfer) u es (d .room) c ∙ ap (λ s. run (s .transfer) es) (one-start-by-demands m n k s _ d (start-promise m n k .demands))
+as-defined t v m n k es (starts {x = x} {u = u} d c) = as-run u v es (d .room) c ∙ ap (λ u. run u es) (start-exactly m n k x u d)
 
 -- more was sent than the block has: the record stands at 9
 pub too-long : (t u : Transfer) (m n k : ℕ) (es : List Event) → Calls t (start m n k ∷ es) u
@@ -164,7 +178,10 @@ too-long t u m n k es c r l =
 -- ---- the theorem
 
 pub every-lump : EveryLump
-every-lump t u m n k es bs s c d = same-lump (story (begun m n k) es) u (agree t u m n k es c) bs s d
+every-lump t u v m n k es bs x c d = same-lump (story (begun m n k) es) u (agree t u m n k es c) bs x v d
+
+pub every-missing : EveryMissing
+every-missing t u m n k es a c f = same-missing (story (begun m n k) es) u (agree t u m n k es c) a f
 
 pub every-finish : EveryFinish
 every-finish t u m n k es out a after c f = same-finish (story (begun m n k) es) u (agree t u m n k es c) out a after f

@@ -13,18 +13,17 @@ use Rattle.bits.proofs.ByteLaws.{getD-zeros}
 use Rattle.grid_promises.specs.Calls.{inRange}
 use Rattle.grid_promises.proofs.RefusalLaws.{in-range}
 use Rattle.fragment_promises.specs.declared.Transfer.{Transfer}
-use Rattle.fragment_promises.specs.declared.Step.{Step}
-use Rattle.fragment_promises.specs.Transfers.{sizeOf, standing, standingOf, started, extended, noted, lumped, stepTo}
+use Rattle.fragment_promises.specs.Transfers.{sizeOf, standing, standingOf, started, extended, noted, lumped}
 use Rattle.fragment_promises.specs.Demands.{Told, Good, LumpDemands}
-use Rattle.fragment_promises.specs.Promises.{Start, Lump, OneStart, OneLump, OneStartByDemands, OneLumpByDemands, StartLowest, LumpLowest}
+use Rattle.fragment_promises.specs.Promises.{Leaves, Start, Lump, OneStep, OneStart, OneLump, OneStartByDemands, OneLumpByDemands, StartLowest, LumpLowest}
 use Rattle.fragment_promises.proofs.PutLaws.{by-place, length-put, put-inside, put-before, put-after}
 use Rattle.fragment_promises.proofs.StandingLaws.{size-most, stands, stands-long, stands-well, well-good, well-size, by-lump}
 
 -- ---- a start
 
-pub start-promise : (m n k : ℕ) → Start m n k (stepTo (started m n k))
+pub start-promise : (m n k : ℕ) → Start m n k (standingOf (started m n k)) (started m n k)
 start-promise m n k = record {
-  exactly = refl;
+  exactly = record { number = refl; left = refl };
   demands = record {
     first = record { found = ⊎-elim inl (λ (h, f). inr (h, ⊎-elim (λ (l, e). absurd (omega arith)) (λ (g, e). e) f)) (stands m n k 0 .found) };
     told = record { rows = refl; columns = refl; levels = refl };
@@ -34,25 +33,26 @@ start-promise m n k = record {
   };
 }
 
+one-left : (v : Transfer) → OneStep (Leaves v)
+one-left v x x′ u u′ a b = (a .number ∙ sym (b .number), a .left ∙ sym (b .left))
+
 pub one-start : OneStart
-one-start m n k s s′ e f = e .exactly ∙ sym (f .exactly)
+one-start m n k x x′ u u′ a b = one-left _ _ _ _ _ (a .exactly) (b .exactly)
 
 -- ---- records are equal where their numbers and bytes are
 
 same-transfer : (t u : Transfer) → Told (u .rows) (u .columns) (u .k) t → t .taken ≡ u .taken → t .bytes ≡ u .bytes → t ≡ u
 same-transfer t u h e f = λ i. record { rows = h .rows i; columns = h .columns i; k = h .levels i; taken = e i; bytes = f i }
 
-same-step : (s s′ : Step) → s .number ≡ s′ .number → s .transfer ≡ s′ .transfer → s ≡ s′
-same-step s s′ e f = λ i. record { number = e i; transfer = f i }
-
 same-told : (m n k : ℕ) (t u : Transfer) → Told m n k t → Told m n k u → Told (u .rows) (u .columns) (u .k) t
 same-told m n k t u h g = record { rows = h .rows ∙ sym (g .rows); columns = h .columns ∙ sym (g .columns); levels = h .levels ∙ sym (g .levels) }
 
 pub one-start-by-demands : OneStartByDemands
-one-start-by-demands m n k s s′ d e =
-    same-step s s′ (first-one _ _ _ (d .first) (e .first))
-    (same-transfer _ _ (same-told m n k _ _ (d .told) (e .told)) (d .none ∙ sym (e .none))
-    (ext-getD 0 _ _ (d .room ∙ sym (e .room)) (λ i _. d .zeros i ∙ sym (e .zeros i))))
+one-start-by-demands m n k x x′ u u′ d e = (
+  first-one _ _ _ (d .first) (e .first),
+  same-transfer u u′ (same-told m n k u u′ (d .told) (e .told)) (d .none ∙ sym (e .none))
+      (ext-getD 0 _ _ (d .room ∙ sym (e .room)) (λ i _. d .zeros i ∙ sym (e .zeros i))),
+)
 
 -- ---- a lump
 
@@ -86,25 +86,25 @@ module _ (t : Transfer) (bs : List ℕ) where
   ill-number x f h = refused-number x f (⊎-elim inl (λ l. inr (omega arith)) h)
 
   -- ---- nothing else keeps the demands
-  module _ (s s′ : Step) (d : LumpDemands t bs s) (e : LumpDemands t bs s′) where
-    same-number : s .number ≡ s′ .number
+  module _ (x x′ : ℕ) (u u′ : Transfer) (d : LumpDemands t bs x u) (e : LumpDemands t bs x′ u′) where
+    same-number : x ≡ x′
     same-number = first-one _ _ _ (d .first) (e .first)
 
     -- byte by byte
-    same-bytes : s .number ≡ 0 → s .transfer .bytes ≡ s′ .transfer .bytes
+    same-bytes : x ≡ 0 → u .bytes ≡ u′ .bytes
     same-bytes z =
-        let z′ : s′ .number ≡ 0 = sym same-number ∙ z in
+        let z′ : x′ ≡ 0 = sym same-number ∙ z in
         ext-getD 0 _ _ (d .room ∙ sym (e .room)) (λ i _.
-        by-place (λ i. getD (s .transfer .bytes) i 0 ≡ getD (s′ .transfer .bytes) i 0) (t .taken) (length bs) i
+        by-place (λ i. getD (u .bytes) i 0 ≡ getD (u′ .bytes) i 0) (t .taken) (length bs) i
         (λ o. d .others z i o ∙ sym (e .others z′ i o)) (λ j l. d .placed z j l ∙ sym (e .placed z′ j l)))
 
-    kept-bytes : 0 < s .number → s .transfer .bytes ≡ s′ .transfer .bytes
-    kept-bytes l = d .kept l ∙ sym (e .kept (rw (← same-number) l))
+    kept-bytes : 0 < x → u .bytes ≡ u′ .bytes
+    kept-bytes l = d .kept l ∙ sym (e .kept (omega (arith, same-number)))
 
-    same-record : s .transfer .taken ≡ s′ .transfer .taken → s .transfer .bytes ≡ s′ .transfer .bytes → s ≡ s′
-    same-record p q = same-step s s′ same-number (same-transfer _ _ (same-told (t .rows) (t .columns) (t .k) _ _ (d .told) (e .told)) p q)
+    same-record : u .taken ≡ u′ .taken → u .bytes ≡ u′ .bytes → (x ≡ x′) × (u ≡ u′)
+    same-record p q = (same-number, same-transfer u u′ (same-told (t .rows) (t .columns) (t .k) u u′ (d .told) (e .told)) p q)
 
-    one-lump-is : s ≡ s′
+    one-lump-is : (x ≡ x′) × (u ≡ u′)
     one-lump-is =
         by-record t bs
         (λ h. same-record (d .stays h ∙ sym (e .stays h)) (kept-bytes (ill-number _ (d .first) h)))
@@ -122,8 +122,8 @@ module _ (t : Transfer) (bs : List ℕ) where
     more : standingOf t ≡ 0 → t .taken + length bs ≤ sizeOf t → standing (t .rows) (t .columns) (t .k) (t .taken + length bs) ≡ 0
     more z l = stands-well _ _ _ (t .taken + length bs) (well-good t z) l
 
-    pub lump-demands : LumpDemands t bs (stepTo (lumped t bs))
-    lump-demands = by-lump t bs (λ u. LumpDemands t bs (stepTo u))
+    pub lump-demands : LumpDemands t bs (standingOf (lumped t bs)) (lumped t bs)
+    lump-demands = by-lump t bs (λ u. LumpDemands t bs (standingOf u) u)
         (λ l. record {
           first = record { found = ⊎-elim inl (λ (h, f). inr (h, ⊎-elim (λ (g, e). inl (omega arith, e)) (λ (g, e). absurd (omega arith)) f)) (stands _ _ _ (t .taken) .found) };
           told = record { rows = refl; columns = refl; levels = refl };
@@ -159,39 +159,39 @@ module _ (t : Transfer) (bs : List ℕ) where
         })
 
     -- each way by itself, as code goes it
-    lump-to : (u : Transfer) → lumped t bs ≡ u → Lump t bs (stepTo u)
-    lump-to u e = subst (λ u. Lump t bs (stepTo u)) e (record { exactly = refl; demands = lump-demands })
+    lump-to : (u : Transfer) → lumped t bs ≡ u → Lump t bs (standingOf u) u
+    lump-to u e = subst (λ u. Lump t bs (standingOf u) u) e (record { exactly = record { number = refl; left = refl }; demands = lump-demands })
 
-    pub lump-stays : 0 < standingOf t → Lump t bs (stepTo t)
+    pub lump-stays : 0 < standingOf t → Lump t bs (standingOf t) t
     lump-stays l = lump-to t (by-lump t bs (λ u. u ≡ t) (λ _. refl) (λ z _. absurd (omega arith)) (λ z _. absurd (omega arith)))
 
-    pub lump-taken : standingOf t ≡ 0 → t .taken + length bs ≤ sizeOf t → Lump t bs (record { number = 0; transfer = extended t bs })
-    lump-taken z l = subst (λ x. Lump t bs (record { number = x; transfer = extended t bs })) (more z l)
+    pub lump-taken : standingOf t ≡ 0 → t .taken + length bs ≤ sizeOf t → Lump t bs 0 (extended t bs)
+    lump-taken z l = subst (λ x. Lump t bs x (extended t bs)) (more z l)
         (lump-to (extended t bs) (by-lump t bs (λ u. u ≡ extended t bs) (λ h. absurd (omega arith)) (λ _ _. refl) (λ _ h. absurd (omega arith))))
 
-    pub lump-refused : standingOf t ≡ 0 → sizeOf t < t .taken + length bs → Lump t bs (record { number = 9; transfer = noted t })
-    lump-refused z l = subst (λ x. Lump t bs (record { number = x; transfer = noted t })) (past z)
+    pub lump-refused : standingOf t ≡ 0 → sizeOf t < t .taken + length bs → Lump t bs 9 (noted t)
+    lump-refused z l = subst (λ x. Lump t bs x (noted t)) (past z)
         (lump-to (noted t) (by-lump t bs (λ u. u ≡ noted t) (λ h. absurd (omega arith)) (λ _ h. absurd (omega arith)) (λ _ _. refl)))
 
     -- demands alone make it what it is
-    pub lump-exactly : (s : Step) → LumpDemands t bs s → s ≡ stepTo (lumped t bs)
-    lump-exactly s d = one-lump-is s (stepTo (lumped t bs)) d lump-demands
+    pub lump-exactly : (x : ℕ) (u : Transfer) → LumpDemands t bs x u → u ≡ lumped t bs
+    lump-exactly x u d = one-lump-is x _ u _ d lump-demands .1
 
 -- where a refusal was noted before, the record stays as it is
-pub lump-unchanged : (t : Transfer) (bs : List ℕ) (s : Step) → LumpDemands t bs s → (Good t → ⊥) ⊎ (sizeOf t < t .taken) → s .transfer ≡ t
-lump-unchanged t bs s d h = same-transfer (s .transfer) t (d .told) (d .stays h) (d .kept (ill-number t bs _ (d .first) h))
+pub lump-unchanged : (t u : Transfer) (bs : List ℕ) (x : ℕ) → LumpDemands t bs x u → (Good t → ⊥) ⊎ (sizeOf t < t .taken) → u ≡ t
+lump-unchanged t u bs x d h = same-transfer u t (d .told) (d .stays h) (d .kept (ill-number t bs x (d .first) h))
 
 -- and so it does where there are no bytes
-pub lump-empty : (t : Transfer) (s : Step) → LumpDemands t [] s → s .transfer ≡ t
-lump-empty t s d =
-    by-record t [] (lump-unchanged t [] s d)
-    (λ r l. let z = taken-number t [] _ (d .first) r l in
-    same-transfer (s .transfer) t (d .told) (omega (arith, d .counted z))
+pub lump-empty : (t u : Transfer) (x : ℕ) → LumpDemands t [] x u → u ≡ t
+lump-empty t u x d =
+    by-record t [] (lump-unchanged t u [] x d)
+    (λ r l. let z = taken-number t [] x (d .first) r l in
+    same-transfer u t (d .told) (omega (arith, d .counted z))
     (ext-getD 0 _ _ (d .room) (λ i _. d .others z i (⊎-elim inl (λ g. inr (omega arith)) (lt-or-le i (t .taken))))))
     (λ r l g. absurd (omega arith))
 
 pub one-lump : OneLump
-one-lump t bs s s′ e f = e .exactly ∙ sym (f .exactly)
+one-lump t bs x x′ u u′ a b = one-left _ _ _ _ _ (a .exactly) (b .exactly)
 
 pub one-lump-by-demands : OneLumpByDemands
 one-lump-by-demands = one-lump-is
@@ -199,7 +199,7 @@ one-lump-by-demands = one-lump-is
 -- ---- the lowest number that applies
 
 pub start-lowest : StartLowest
-start-lowest m n k s d = rising-lowest _ (s .number) refl .0 (d .first)
+start-lowest m n k x u d = rising-lowest _ x refl .0 (d .first)
 
 pub lump-lowest : LumpLowest
-lump-lowest t bs s d = rising-lowest _ (s .number) refl .0 (d .first)
+lump-lowest t bs x u d = rising-lowest _ x refl .0 (d .first)

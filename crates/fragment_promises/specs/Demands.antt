@@ -1,5 +1,6 @@
--- What is demanded of a start, a lump and a finish: facts about the arguments and what is left, a field each. They cite no computed number and no list of cells,
--- and they alone leave one answer (Promises.antt). Assumes nothing.
+-- What is demanded of a start, a lump, a finish and a count of what is missing: facts about the arguments and what is left, a field each. They cite no computed number and no list of cells,
+-- and they alone leave one answer (Promises.antt). x is the number that a call answers, t the record that it is lent, and u that record afterwards.
+-- Assumes nothing.
 use Prim.Native.Nat.{ℕ, _+_, _*_, _<_, _≤_}
 use mathlib.Core.Path.{_≡_}
 use mathlib.Core.Bool.{Bool, true}
@@ -14,7 +15,7 @@ use Rattle.grid_promises.specs.Refusals.{InRange, Spare, Held, Above, inverted}
 use Rattle.grid_promises.specs.Demands.{Names}
 use Rattle.grid_promises.specs.declared.ReadAnswer.{ReadAnswer}
 use Rattle.fragment_promises.specs.declared.Transfer.{Transfer}
-use Rattle.fragment_promises.specs.declared.Step.{Step}
+use Rattle.fragment_promises.specs.declared.MissingAnswer.{MissingAnswer}
 use Rattle.fragment_promises.specs.Transfers.{counterBytes, size, sizeOf, countersOf}
 
 -- the record has these numbers
@@ -33,14 +34,15 @@ Good t = InRange (t .rows) (t .columns) (t .k)
 abbrev pub startRefusals : ℕ → ℕ → ℕ → List Refusal
 startRefusals m n k = (1 when (InRange m n k → ⊥)) ∷ []
 
-pub record StartDemands (m n k : ℕ) (s : Step) : Type 0 where
-  pub first : First (startRefusals m n k) (s .number)
-  pub told : Told m n k (s .transfer)
+-- what the record held before does not count
+pub record StartDemands (m n k x : ℕ) (u : Transfer) : Type 0 where
+  pub first : First (startRefusals m n k) x
+  pub told : Told m n k u
   -- no byte was taken
-  pub none : s .transfer .taken ≡ 0
+  pub none : u .taken ≡ 0
   -- there is room for the longest block, and it holds zeros
-  pub room : length (s .transfer .bytes) ≡ 560
-  pub zeros : (i : ℕ) → getD (s .transfer .bytes) i 0 ≡ 0
+  pub room : length (u .bytes) ≡ 560
+  pub zeros : (i : ℕ) → getD (u .bytes) i 0 ≡ 0
 
 -- ---- a lump of these bytes, lent any record t
 
@@ -48,21 +50,21 @@ pub record StartDemands (m n k : ℕ) (s : Step) : Type 0 where
 abbrev pub lumpRefusals : Transfer → ℕ → List Refusal
 lumpRefusals t more = (1 when (Good t → ⊥)) ∷ (9 when (sizeOf t < t .taken + more)) ∷ []
 
-pub record LumpDemands (t : Transfer) (bs : List ℕ) (s : Step) : Type 0 where
-  pub first : First (lumpRefusals t (length bs)) (s .number)
+pub record LumpDemands (t : Transfer) (bs : List ℕ) (x : ℕ) (u : Transfer) : Type 0 where
+  pub first : First (lumpRefusals t (length bs)) x
   -- what the start was told stays, and so does the room
-  pub told : Told (t .rows) (t .columns) (t .k) (s .transfer)
-  pub room : length (s .transfer .bytes) ≡ length (t .bytes)
+  pub told : Told (t .rows) (t .columns) (t .k) u
+  pub room : length (u .bytes) ≡ length (t .bytes)
   -- taken: every byte of it stands after those that were taken before
-  pub counted : s .number ≡ 0 → s .transfer .taken ≡ t .taken + length bs
-  pub placed : s .number ≡ 0 → (i : ℕ) → i < length bs → getD (s .transfer .bytes) (t .taken + i) 0 ≡ getD bs i 0
-  pub others : s .number ≡ 0 → (i : ℕ) → (i < t .taken) ⊎ (t .taken + length bs ≤ i) → getD (s .transfer .bytes) i 0 ≡ getD (t .bytes) i 0
+  pub counted : x ≡ 0 → u .taken ≡ t .taken + length bs
+  pub placed : x ≡ 0 → (i : ℕ) → i < length bs → getD (u .bytes) (t .taken + i) 0 ≡ getD bs i 0
+  pub others : x ≡ 0 → (i : ℕ) → (i < t .taken) ⊎ (t .taken + length bs ≤ i) → getD (u .bytes) i 0 ≡ getD (t .bytes) i 0
   -- refused: no byte of it is taken
-  pub kept : 0 < s .number → s .transfer .bytes ≡ t .bytes
+  pub kept : 0 < x → u .bytes ≡ t .bytes
   -- and that it would make the block too long is noted, so that every later call answers 9: 561 bytes are more than any block has
-  pub noted : Good t → t .taken ≤ sizeOf t → s .number ≡ 9 → s .transfer .taken ≡ 561
+  pub noted : Good t → t .taken ≤ sizeOf t → x ≡ 9 → u .taken ≡ 561
   -- where a refusal was noted before, nothing changes
-  pub stays : (Good t → ⊥) ⊎ (sizeOf t < t .taken) → s .transfer .taken ≡ t .taken
+  pub stays : (Good t → ⊥) ⊎ (sizeOf t < t .taken) → u .taken ≡ t .taken
 
 -- ---- a finish: so many bytes were taken, and bs are those held
 
@@ -97,3 +99,16 @@ pub record FinishDemands (m n k taken : ℕ) (bs out : List ℕ) (answer : ReadA
   -- each cell by itself, as a read
   pub shows : answer .number ≡ 0 → (i j x y : ℕ) → i < m → j < n → Held (width k) (countersOf m n k bs) i x → Held (width k) (countersOf m n k bs) (m + j) y
       → bit after i j ≡ inverted x y (cellBit m n k bs i j)
+
+-- ---- how many bytes are missing: so many were taken
+
+-- the refusals that a record has noted, in the order in which they are judged
+abbrev pub missingRefusals : ℕ → ℕ → ℕ → ℕ → List Refusal
+missingRefusals m n k taken = (1 when (InRange m n k → ⊥)) ∷ (9 when (size m n k < taken)) ∷ []
+
+pub record MissingDemands (m n k taken : ℕ) (answer : MissingAnswer) : Type 0 where
+  pub first : First (missingRefusals m n k taken) (answer .number)
+  -- with those that were taken they are all that the block has
+  pub completes : answer .number ≡ 0 → answer .bytes + taken ≡ size m n k
+  -- a refusal counts nothing
+  pub none : 0 < answer .number → answer .bytes ≡ 0

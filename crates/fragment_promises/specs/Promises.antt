@@ -1,4 +1,4 @@
--- What a start, a lump and a finish promise: how a call ends exactly, and what is demanded of it; and that nothing else meets that. Assumes nothing.
+-- What a start, a lump, a finish and a count of what is missing promise: how a call ends exactly, and what is demanded of it; and that nothing else meets that. Assumes nothing.
 use Prim.Native.Nat.{ℕ, _+_, _<_, _≤_}
 use mathlib.Core.Path.{_≡_}
 use mathlib.Core.List.{List}
@@ -13,21 +13,26 @@ use Rattle.grid_promises.specs.Refusals.{InRange}
 use Rattle.grid_promises.specs.Promises.{Read}
 use Rattle.grid_promises.specs.declared.ReadAnswer.{ReadAnswer}
 use Rattle.fragment_promises.specs.declared.Transfer.{Transfer}
-use Rattle.fragment_promises.specs.declared.Step.{Step}
-use Rattle.fragment_promises.specs.Transfers.{size, started, lumped, stepTo, held, countersOf, cellsOf, finishNumber}
-use Rattle.fragment_promises.specs.Demands.{startRefusals, lumpRefusals, StartDemands, LumpDemands, FinishDemands}
+use Rattle.fragment_promises.specs.declared.MissingAnswer.{MissingAnswer}
+use Rattle.fragment_promises.specs.Transfers.{size, standing, standingOf, missing, started, lumped, held, countersOf, cellsOf, finishNumber}
+use Rattle.fragment_promises.specs.Demands.{startRefusals, lumpRefusals, missingRefusals, StartDemands, LumpDemands, FinishDemands, MissingDemands}
 
--- ---- a start with these numbers
+-- ---- a start and a lump: x is the number that the call answers, t the record that it is lent, and u that record afterwards
 
-pub record Start (m n k : ℕ) (s : Step) : Type 0 where
-  pub exactly : s ≡ stepTo (started m n k)
-  pub demands : StartDemands m n k s
+-- the record afterwards is v, and the number is what v stands at
+pub record Leaves (v : Transfer) (x : ℕ) (u : Transfer) : Type 0 where
+  pub number : x ≡ standingOf v
+  pub left : u ≡ v
 
--- ---- a lump of these bytes, lent any record t, whoever made it
+-- with these numbers, whatever the record held
+pub record Start (m n k x : ℕ) (u : Transfer) : Type 0 where
+  pub exactly : Leaves (started m n k) x u
+  pub demands : StartDemands m n k x u
 
-pub record Lump (t : Transfer) (bs : List ℕ) (s : Step) : Type 0 where
-  pub exactly : s ≡ stepTo (lumped t bs)
-  pub demands : LumpDemands t bs s
+-- of these bytes, lent any record t, whoever made it
+pub record Lump (t : Transfer) (bs : List ℕ) (x : ℕ) (u : Transfer) : Type 0 where
+  pub exactly : Leaves (lumped t bs) x u
+  pub demands : LumpDemands t bs x u
 
 -- ---- a finish where so many bytes were taken and bs are those held: lent `out`, which holds `after` at the end. It hands no record back
 
@@ -55,35 +60,65 @@ Finishes t = Finish (t .rows) (t .columns) (t .k) (t .taken) (held t)
 abbrev pub FinishesBy : Transfer → List ℕ → ReadAnswer → List ℕ → Type 0
 FinishesBy t = FinishDemands (t .rows) (t .columns) (t .k) (t .taken) (held t)
 
+-- ---- how many bytes are missing where so many were taken. Nothing is lent but the record, which is only read
+
+pub record MissingExactly (m n k taken : ℕ) (answer : MissingAnswer) : Type 0 where
+  pub number : answer .number ≡ standing m n k taken
+  pub bytes : answer .bytes ≡ missing m n k taken
+
+pub record Missing (m n k taken : ℕ) (answer : MissingAnswer) : Type 0 where
+  pub exactly : MissingExactly m n k taken answer
+  pub demands : MissingDemands m n k taken answer
+
+-- of a record, and what is demanded of it
+abbrev pub Misses : Transfer → MissingAnswer → Type 0
+Misses t = Missing (t .rows) (t .columns) (t .k) (t .taken)
+
+abbrev pub MissesBy : Transfer → MissingAnswer → Type 0
+MissesBy t = MissingDemands (t .rows) (t .columns) (t .k) (t .taken)
+
 -- ---- no second answer: by the exact part
 
+-- P allows no second number and no second record
+abbrev pub OneStep : (ℕ → Transfer → Type 0) → Type 0
+OneStep P = (x x′ : ℕ) (u u′ : Transfer) → P x u → P x′ u′ → (x ≡ x′) × (u ≡ u′)
+
 abbrev pub OneStart : Type 0
-OneStart = (m n k : ℕ) (s s′ : Step) → Start m n k s → Start m n k s′ → s ≡ s′
+OneStart = (m n k : ℕ) → OneStep (Start m n k)
 
 abbrev pub OneLump : Type 0
-OneLump = (t : Transfer) (bs : List ℕ) (s s′ : Step) → Lump t bs s → Lump t bs s′ → s ≡ s′
+OneLump = (t : Transfer) (bs : List ℕ) → OneStep (Lump t bs)
 
 abbrev pub OneFinish : Type 0
 OneFinish = (m n k taken : ℕ) (bs out : List ℕ) → One (FinishExactly m n k taken bs out)
 
+abbrev pub OneMissing : Type 0
+OneMissing = (m n k taken : ℕ) (a a′ : MissingAnswer) → MissingExactly m n k taken a → MissingExactly m n k taken a′ → a ≡ a′
+
 -- ---- nor one that keeps the demands alone
 
 abbrev pub OneStartByDemands : Type 0
-OneStartByDemands = (m n k : ℕ) (s s′ : Step) → StartDemands m n k s → StartDemands m n k s′ → s ≡ s′
+OneStartByDemands = (m n k : ℕ) → OneStep (StartDemands m n k)
 
 abbrev pub OneLumpByDemands : Type 0
-OneLumpByDemands = (t : Transfer) (bs : List ℕ) (s s′ : Step) → LumpDemands t bs s → LumpDemands t bs s′ → s ≡ s′
+OneLumpByDemands = (t : Transfer) (bs : List ℕ) → OneStep (LumpDemands t bs)
 
 abbrev pub OneFinishByDemands : Type 0
 OneFinishByDemands = (m n k taken : ℕ) (bs out : List ℕ) → One (FinishDemands m n k taken bs out)
 
--- ---- the lowest number that applies is the answer of a start and of a lump; a finish has an order of its own
+abbrev pub OneMissingByDemands : Type 0
+OneMissingByDemands = (m n k taken : ℕ) (a a′ : MissingAnswer) → MissingDemands m n k taken a → MissingDemands m n k taken a′ → a ≡ a′
+
+-- ---- the lowest number that applies is the answer, but for a finish, which has an order of its own
 
 abbrev pub StartLowest : Type 0
-StartLowest = (m n k : ℕ) (s : Step) → StartDemands m n k s → Lowest (Applies (startRefusals m n k)) (s .number)
+StartLowest = (m n k x : ℕ) (u : Transfer) → StartDemands m n k x u → Lowest (Applies (startRefusals m n k)) x
 
 abbrev pub LumpLowest : Type 0
-LumpLowest = (t : Transfer) (bs : List ℕ) (s : Step) → LumpDemands t bs s → Lowest (Applies (lumpRefusals t (length bs))) (s .number)
+LumpLowest = (t : Transfer) (bs : List ℕ) (x : ℕ) (u : Transfer) → LumpDemands t bs x u → Lowest (Applies (lumpRefusals t (length bs))) x
+
+abbrev pub MissingLowest : Type 0
+MissingLowest = (m n k taken : ℕ) (a : MissingAnswer) → MissingDemands m n k taken a → Lowest (Applies (missingRefusals m n k taken)) (a .number)
 
 -- ---- what does not count
 

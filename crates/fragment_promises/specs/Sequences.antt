@@ -1,4 +1,4 @@
--- Starts, lumps and finishes in any order, and what they come to: the read of the bytes sent since the last start, however they were cut. It is said of whatever
+-- Starts, lumps, finishes and counts of what is missing in any order, and what they come to: the read of the bytes sent since the last start, however they were cut. It is said of whatever
 -- keeps the demands. Assumes nothing.
 use Prim.Native.Nat.{ℕ, _+_, _<_, _≤_, _^_}
 use mathlib.Core.Path.{_≡_}
@@ -14,10 +14,10 @@ use Rattle.grid_promises.specs.Promises.{Read}
 use Rattle.grid_promises.specs.declared.ReadAnswer.{ReadAnswer}
 use Rattle.grid_promises.specs.declared.Answer.{Answer}
 use Rattle.fragment_promises.specs.declared.Transfer.{Transfer}
-use Rattle.fragment_promises.specs.declared.Step.{Step}
+use Rattle.fragment_promises.specs.declared.MissingAnswer.{MissingAnswer}
 use Rattle.fragment_promises.specs.Transfers.{counterBytes, size, sizeOf, countersOf, cellsOf, wordBytes, started, lumped}
-use Rattle.fragment_promises.specs.Demands.{Good, StartDemands, LumpDemands, FinishDemands}
-use Rattle.fragment_promises.specs.Promises.{FinishesBy}
+use Rattle.fragment_promises.specs.Demands.{Good, StartDemands, LumpDemands, FinishDemands, MissingDemands}
+use Rattle.fragment_promises.specs.Promises.{FinishesBy, MissesBy}
 
 -- ---- calls in turn
 
@@ -25,19 +25,23 @@ pub data Event : Type 0 where
   start : (m n k : ℕ) → Event
   lump : (bs : List ℕ) → Event
   finish : (out : List ℕ) → Event
+  -- how many bytes are missing?
+  ask : Event
 
--- each is handed the record that the one before left, and keeps what is demanded of it. A finish hands no record back
+-- each is lent the record as the one before left it, and keeps what is demanded of it. The last two only read it
 pub data Calls : Transfer → List Event → Transfer → Type 0 where
   none : {t : Transfer} → Calls t [] t
-  starts : {m n k : ℕ} {s : Step} {t v : Transfer} {es : List Event} → StartDemands m n k s → Calls (s .transfer) es v → Calls t (start m n k ∷ es) v
-  takes : {bs : List ℕ} {s : Step} {t v : Transfer} {es : List Event} → LumpDemands t bs s → Calls (s .transfer) es v → Calls t (lump bs ∷ es) v
+  starts : {m n k x : ℕ} {t u v : Transfer} {es : List Event} → StartDemands m n k x u → Calls u es v → Calls t (start m n k ∷ es) v
+  takes : {bs : List ℕ} {x : ℕ} {t u v : Transfer} {es : List Event} → LumpDemands t bs x u → Calls u es v → Calls t (lump bs ∷ es) v
   ends : {out after : List ℕ} {a : ReadAnswer} {t v : Transfer} {es : List Event} → FinishesBy t out a after → Calls t es v → Calls t (finish out ∷ es) v
+  asks : {a : MissingAnswer} {t v : Transfer} {es : List Event} → MissesBy t a → Calls t es v → Calls t (ask ∷ es) v
 
 -- the record that the definitions make of them
 abbrev pub goes : Transfer → Event → Transfer
 goes t (start m n k) = started m n k
 goes t (lump bs) = lumped t bs
 goes t (finish out) = t
+goes t ask = t
 
 abbrev pub run : Transfer → List Event → Transfer
 run t [] = t
@@ -62,6 +66,7 @@ abbrev pub tell : Story → Event → Story
 tell h (start m n k) = begun m n k
 tell h (lump bs) = record { rows = h .rows; columns = h .columns; k = h .k; sent = h .sent ++ bs }
 tell h (finish out) = h
+tell h ask = h
 
 abbrev pub story : Story → List Event → Story
 story h [] = h
@@ -79,8 +84,8 @@ whole h = size (h .rows) (h .columns) (h .k)
 -- a lump: 1 for bad numbers, 9 where more was sent than the block has, this lump included
 abbrev pub EveryLump : Type 0
 EveryLump =
-    (t u : Transfer) (m n k : ℕ) (es : List Event) (bs : List ℕ) (s : Step) → Calls t (start m n k ∷ es) u → LumpDemands u bs s
-    → let h = tell (story (begun m n k) es) (lump bs) in First ((1 when (Fine h → ⊥)) ∷ (9 when (whole h < length (h .sent))) ∷ []) (s .number)
+    (t u v : Transfer) (m n k : ℕ) (es : List Event) (bs : List ℕ) (x : ℕ) → Calls t (start m n k ∷ es) u → LumpDemands u bs x v
+    → let h = tell (story (begun m n k) es) (lump bs) in First ((1 when (Fine h → ⊥)) ∷ (9 when (whole h < length (h .sent))) ∷ []) x
 
 -- after a start and any calls every finish ends as P says of their story
 abbrev pub AfterCalls : (Story → List ℕ → ReadAnswer → List ℕ → Type 0) → Type 0
@@ -92,11 +97,21 @@ AfterCalls P =
 abbrev pub EveryFinish : Type 0
 EveryFinish = AfterCalls (λ h out a after. FinishDemands (h .rows) (h .columns) (h .k) (length (h .sent)) (h .sent) out a after)
 
+-- what is missing: as if all that was sent were taken
+abbrev pub EveryMissing : Type 0
+EveryMissing =
+    (t u : Transfer) (m n k : ℕ) (es : List Event) (a : MissingAnswer) → Calls t (start m n k ∷ es) u → MissesBy u a
+    → let h = story (begun m n k) es in MissingDemands (h .rows) (h .columns) (h .k) (length (h .sent)) a
+
 -- ---- its cases. Each has good numbers, but for the last
 
--- a whole block was sent: the ordinary read's own promise on its counters and cell words
+-- the ordinary read's own promise on the counters and cell words that were sent
+abbrev pub ReadsSent : Story → List ℕ → ReadAnswer → List ℕ → Type 0
+ReadsSent h = Read (h .rows) (h .columns) (h .k) (cellsOf (h .rows) (h .columns) (h .k) (h .sent)) (countersOf (h .rows) (h .columns) (h .k) (h .sent))
+
+-- a whole block was sent
 abbrev pub Whole : Type 0
-Whole = AfterCalls (λ h out a after. Fine h → Below 256 (h .sent) → length (h .sent) ≡ whole h → Read (h .rows) (h .columns) (h .k) (cellsOf (h .rows) (h .columns) (h .k) (h .sent)) (countersOf (h .rows) (h .columns) (h .k) (h .sent)) out a after)
+Whole = AfterCalls (λ h out a after. Fine h → Below 256 (h .sent) → length (h .sent) ≡ whole h → ReadsSent h out a after)
 
 -- the same of counters and cells that were sent as bytes: they are read as if they were lent
 abbrev pub Sent : Type 0
@@ -137,15 +152,32 @@ Long = AfterCalls (λ h out a after. Fine h → whole h < length (h .sent) → R
 abbrev pub Bad : Type 0
 Bad = AfterCalls (λ h out a after. (Fine h → ⊥) → RefusedWith 1 out a after)
 
+-- ---- what is missing tells how a finish with an output of the right length ends
+
+-- where so many bytes are missing after a start and any calls, such a finish ends as P says
+abbrev pub AfterMissing : (ℕ → Story → List ℕ → ReadAnswer → List ℕ → Type 0) → Type 0
+AfterMissing P =
+    (t u : Transfer) (m n k : ℕ) (es : List Event) (a : MissingAnswer) → Calls t (start m n k ∷ es) u → MissesBy u a → a .number ≡ 0
+    → (out : List ℕ) (b : ReadAnswer) (after : List ℕ) → FinishesBy u out b after → let h = story (begun m n k) es in length out ≡ h .rows → P (a .bytes) h out b after
+
+-- none: it is the ordinary read, and answers neither 1 nor 9 nor 8
+abbrev pub NoneMissing : Type 0
+NoneMissing = AfterMissing (λ bytes h out b after. bytes ≡ 0 → Below 256 (h .sent)
+    → ReadsSent h out b after × ((b .number ≡ 0) ⊎ (b .number ≡ 3) ⊎ (b .number ≡ 4)))
+
+-- some: 8
+abbrev pub SomeMissing : Type 0
+SomeMissing = AfterMissing (λ bytes h out b after. 0 < bytes → RefusedWith 8 out b after)
+
 -- ---- 1 at the start, and 9 there and ever after
 
 -- a start itself answers 1 for bad numbers, and else 0
-pub record StartAnswers (m n k : ℕ) (s : Step) : Type 0 where
-  pub bad : (InRange m n k → ⊥) → s .number ≡ 1
-  pub good : InRange m n k → s .number ≡ 0
+pub record StartAnswers (m n k x : ℕ) : Type 0 where
+  pub bad : (InRange m n k → ⊥) → x ≡ 1
+  pub good : InRange m n k → x ≡ 0
 
 abbrev pub EveryStart : Type 0
-EveryStart = (m n k : ℕ) (s : Step) → StartDemands m n k s → StartAnswers m n k s
+EveryStart = (m n k x : ℕ) (u : Transfer) → StartDemands m n k x u → StartAnswers m n k x
 
 -- calls without a start
 abbrev pub NoStart : List Event → Type 0
@@ -153,11 +185,13 @@ NoStart [] = Unit {0}
 NoStart (start m n k ∷ es) = ⊥
 NoStart (lump bs ∷ es) = NoStart es
 NoStart (finish out ∷ es) = NoStart es
+NoStart (ask ∷ es) = NoStart es
 
--- lumps and finishes of this record answer 9
+-- every call with this record but a start answers 9
 pub record Nine (v : Transfer) : Type 0 where
-  pub lumps : (bs : List ℕ) (s : Step) → LumpDemands v bs s → s .number ≡ 9
+  pub lumps : (bs : List ℕ) (x : ℕ) (w : Transfer) → LumpDemands v bs x w → x ≡ 9
   pub finishes : (out : List ℕ) (a : ReadAnswer) (after : List ℕ) → FinishesBy v out a after → RefusedWith 9 out a after
+  pub asks : (a : MissingAnswer) → MissesBy v a → (a .number ≡ 9) × (a .bytes ≡ 0)
 
 -- more bytes were sent than the block has: 9, and so after any further calls without a start
 abbrev pub EverAfter : Type 0
@@ -167,7 +201,8 @@ EverAfter =
 
 -- a refused lump leaves the bytes that are held, and all others
 abbrev pub NotTaken : Type 0
-NotTaken = (t : Transfer) (bs : List ℕ) (s : Step) → LumpDemands t bs s → (Good t → ⊥) ⊎ (sizeOf t < t .taken + length bs) → s .transfer .bytes ≡ t .bytes
+NotTaken =
+    (t u : Transfer) (bs : List ℕ) (x : ℕ) → LumpDemands t bs x u → (Good t → ⊥) ⊎ (sizeOf t < t .taken + length bs) → u .bytes ≡ t .bytes
 
 -- ---- one start and lumps alone
 
@@ -207,7 +242,7 @@ AnyCutting =
 
 -- a lump of no bytes leaves any record as it is
 abbrev pub EmptyLump : Type 0
-EmptyLump = (t : Transfer) (s : Step) → LumpDemands t [] s → s .transfer ≡ t
+EmptyLump = (t u : Transfer) (x : ℕ) → LumpDemands t [] x u → u ≡ t
 
 -- so does a finish: calls with it left out are calls from the same record to the same record
 abbrev pub FinishBetween : Type 0

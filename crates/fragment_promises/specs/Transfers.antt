@@ -1,6 +1,6 @@
 -- A grid block that arrives in lumps: its bytes, the record that is carried from call to call, and what each call makes of it. m are the rows, n the columns,
 -- k is K. Assumes nothing.
-use Prim.Native.Nat.{ℕ, _+_, _*_}
+use Prim.Native.Nat.{ℕ, _+_, _-_, _*_}
 use mathlib.Core.Bool.{not, cond}
 use mathlib.Core.List.{List, [], _∷_, _++_}
 use lib.Dec.{eqb, leb, ltb}
@@ -9,7 +9,6 @@ use Rattle.bits.specs.Bits.{list, number, digits}
 use Rattle.rdis.specs.Packing.{width, bytesFor}
 use Rattle.grid_promises.specs.Calls.{inRange, readNumber}
 use Rattle.fragment_promises.specs.declared.Transfer.{Transfer}
-use Rattle.fragment_promises.specs.declared.Step.{Step}
 
 -- ---- a block's bytes: the packed counters, then the cell words of 8 bytes, the lowest byte first
 
@@ -49,7 +48,14 @@ finishNumber m n k taken bs out =
     (cond (ltb (size m n k) taken) 9
     (cond (not (eqb out m)) 2 (cond (ltb (length bs) (size m n k)) 8 (readNumber m n k (cellsOf m n k bs) (countersOf m n k bs) out))))
 
+-- how many bytes of the block are missing where so many were taken: none are counted where the record stands at a refusal
+unfoldable pub missing : ℕ → ℕ → ℕ → ℕ → ℕ
+missing m n k taken = cond (eqb (standing m n k taken) 0) (size m n k - taken) 0
+
 -- ---- the record
+
+abbrev pub transfer : ℕ → ℕ → ℕ → ℕ → List ℕ → Transfer
+transfer m n k taken bytes = record { rows = m; columns = n; k = k; taken = taken; bytes = bytes }
 
 abbrev pub standingOf : Transfer → ℕ
 standingOf t = standing (t .rows) (t .columns) (t .k) (t .taken)
@@ -83,7 +89,3 @@ noted t = record { rows = t .rows; columns = t .columns; k = t .k; taken = 561; 
 -- after a lump; a record that stands at a refusal stays as it is
 unfoldable pub lumped : Transfer → List ℕ → Transfer
 lumped t bs = cond (eqb (standingOf t) 0) (cond (leb (t .taken + length bs) (sizeOf t)) (extended t bs) (noted t)) t
-
--- what a start and a lump answer: the record, and what it stands at
-abbrev pub stepTo : Transfer → Step
-stepTo t = record { number = standingOf t; transfer = t }

@@ -14,9 +14,9 @@ pub struct Transfer {
     pub bytes: [u8; LONGEST],
 }
 
-// What a start and a lump answer: 0 or the number of the refusal, and the transfer from here on.
+// How many bytes of its block a transfer still lacks: 0 or the number of the refusal, and the bytes.
 #[repr(C)]
-pub struct Step {
+pub struct MissingAnswer {
     pub number: usize,
-    pub transfer: Transfer,
+    pub bytes: usize,
 }

@@ -10,13 +10,13 @@ use lib.Dec.{leb}
 use lib.ListN.{length, getD, take, drop, set}
 use lib.Seq.{paste, paste-zero, paste-suc, take-length, take-take}
 use Rattle.bits.specs.Bits.{number, numberAt}
-use Rattle.bits.proofs.BoundLaws.{length-list, list-more}
+use Rattle.bits.proofs.BoundLaws.{list-more}
 use Rattle.rdis.specs.Packing.{width, bytesFor}
 use Rattle.grid_promises.specs.Refusals.{InRange}
 use Rattle.grid_promises.specs.Promises.{Read}
 use Rattle.grid_promises.specs.declared.ReadAnswer.{ReadAnswer}
 use Rattle.fragment_promises.specs.declared.Transfer.{Transfer}
-use Rattle.fragment_promises.specs.Transfers.{counterBytes, size, extended, noted, standingOf, countersOf, cellsOf, wordsFrom}
+use Rattle.fragment_promises.specs.Transfers.{counterBytes, size, transfer, held, standingOf, countersOf, cellsOf, wordsFrom}
 use Rattle.fragment_promises.specs.Promises.{Lump}
 use Rattle.fragment_promises.proofs.StandingLaws.{size-most, well-good}
 use Rattle.fragment_promises.proofs.StepLaws.{lump-stays, lump-taken, lump-refused}
@@ -32,60 +32,42 @@ pub whole-length : (m n k c : ℕ) (bs : List ℕ) → c ≡ counterBytes m n k 
 unfolding size
 whole-length m n k c bs e f = omega arith
 
--- ---- the bytes of a lump
-
--- a record with the first i bytes of a lump put into it, from place p on
-abbrev pub partly : Transfer → ℕ → List ℕ → ℕ → Transfer
-partly u p bs i = record { rows = u .rows; columns = u .columns; k = u .k; taken = u .taken; bytes = paste (u .bytes) p bs i }
-
-module _ (u : Transfer) (p : ℕ) (bs : List ℕ) where
-  pub partly-none : u ≡ partly u p bs 0
-  partly-none = λ i. record { rows = u .rows; columns = u .columns; k = u .k; taken = u .taken; bytes = paste-zero (u .bytes) p bs i }
-
-  pub partly-more : (next : Transfer) (i : ℕ) → length (u .bytes) ≡ 560 → p + i < 560 → i < length bs → next ≡ partly u p bs i
-      → _≡_ {A = Transfer} (record { rows = next .rows; columns = next .columns; k = next .k; taken = next .taken; bytes = set (next .bytes) (p + i) (getD bs i 0) })
-      (partly u p bs (i + 1))
-  partly-more next i room l q e =
-      let more = paste-suc (u .bytes) p bs i 0 (omega arith) q ∙ ap (paste (u .bytes) p bs) (sym (add-one i)) in
-      ap (λ v. record { rows = v .rows; columns = v .columns; k = v .k; taken = v .taken; bytes = set (v .bytes) (p + i) (getD bs i 0) }) e
-      ∙ (λ j. record { rows = u .rows; columns = u .columns; k = u .k; taken = u .taken; bytes = more j })
-
 -- ---- a lump that was judged
 
 module _ (t : Transfer) (j : Judged) (bs : List ℕ) where
-  -- its record before its bytes are put
-  abbrev pub counted-on : Transfer
-  counted-on = record { rows = t .rows; columns = t .columns; k = t .k; taken = j .taken; bytes = t .bytes }
-
   -- what is put are bytes of the lump, and there is room for them
   pub judged-room : Judges (t .rows) (t .columns) (t .k) (t .taken) (length bs) j → (j .more ≤ length bs) × ((i : ℕ) → i < j .more → t .taken + i < 560)
   judged-room (stays _ e) = let z : j .more ≡ 0 = ap (λ x. x .more) e in (omega arith, λ i l. absurd (omega arith))
   judged-room (refused _ _ e) = let z : j .more ≡ 0 = ap (λ x. x .more) e in (omega arith, λ i l. absurd (omega arith))
   judged-room (fits z l e) = let f : j .more ≡ length bs = ap (λ x. x .more) e in (omega arith, λ i h. omega (arith, size-most _ _ _ (well-good t z)))
 
--- with all of them the lump ends as it should
+  -- the record with its count, and its bytes put
+  abbrev pub judged : Transfer
+  judged = transfer (t .rows) (t .columns) (t .k) (j .taken) (paste (t .bytes) (t .taken) bs (j .more))
+
+-- then the lump ends as it should
 pub judged-lump : (t : Transfer) (j : Judged) (bs : List ℕ) → length (t .bytes) ≡ 560 → Judges (t .rows) (t .columns) (t .k) (t .taken) (length bs) j
-    → Lump t bs (record { number = j .number; transfer = partly (counted-on t j bs) (t .taken) bs (j .more) })
+    → Lump t bs (j .number) (judged t j bs)
 judged-lump t j bs room d = go d
   where
     ends : Judged → Type 0
-    ends j = Lump t bs (record { number = j .number; transfer = partly (counted-on t j bs) (t .taken) bs (j .more) })
+    ends j = Lump t bs (j .number) (judged t j bs)
 
-    all : extended t bs ≡ partly (counted-on t (record { number = 0; taken = t .taken + length bs; more = length bs }) bs) (t .taken) bs (length bs)
-    all = λ i. record {
-      rows = t .rows;
-      columns = t .columns;
-      k = t .k;
-      taken = t .taken + length bs;
-      bytes = take (t .taken) (t .bytes) ++ sym (take-length bs) i ++ drop (t .taken + length bs) (t .bytes);
-    }
+    put : (x taken more : ℕ) (d : List ℕ) → d ≡ paste (t .bytes) (t .taken) bs more → Lump t bs x (transfer (t .rows) (t .columns) (t .k) taken d)
+        → Lump t bs x (transfer (t .rows) (t .columns) (t .k) taken (paste (t .bytes) (t .taken) bs more))
+    put x taken more d e = subst (λ d. Lump t bs x (transfer (t .rows) (t .columns) (t .k) taken d)) e
+
+    all : held t ++ bs ++ drop (t .taken + length bs) (t .bytes) ≡ paste (t .bytes) (t .taken) bs (length bs)
+    all = ap (λ b. held t ++ b ++ drop (t .taken + length bs) (t .bytes)) (sym (take-length bs))
 
     go : Judges (t .rows) (t .columns) (t .k) (t .taken) (length bs) j → ends j
-    go (stays l e) =
-        subst ends (sym e) (subst (λ v. Lump t bs (record { number = standingOf t; transfer = v })) (partly-none t (t .taken) bs) (lump-stays t bs room l))
-    go (fits z l e) = subst ends (sym e) (subst (λ v. Lump t bs (record { number = 0; transfer = v })) all (lump-taken t bs room z l))
-    go (refused z l e) =
-        subst ends (sym e) (subst (λ v. Lump t bs (record { number = 9; transfer = v })) (partly-none (noted t) (t .taken) bs) (lump-refused t bs room z l))
+    go (stays l e) = subst ends (sym e) (put (standingOf t) (t .taken) 0 _ (paste-zero (t .bytes) (t .taken) bs) (lump-stays t bs room l))
+    go (fits z l e) = subst ends (sym e) (put 0 (t .taken + length bs) (length bs) _ all (lump-taken t bs room z l))
+    go (refused z l e) = subst ends (sym e) (put 9 561 0 _ (paste-zero (t .bytes) (t .taken) bs) (lump-refused t bs room z l))
+
+-- one byte more is put
+pub put-more : (d bs next : List ℕ) (p i : ℕ) → p + i < length d → i < length bs → next ≡ paste d p bs i → set next (p + i) (getD bs i 0) ≡ paste d p bs (i + 1)
+put-more d bs next p i l q e = ap (λ x. set x (p + i) (getD bs i 0)) e ∙ paste-suc d p bs i 0 l q ∙ ap (paste d p bs) (sym (add-one i))
 
 -- ---- the words of a block
 
@@ -98,10 +80,6 @@ pub one-word-more : (c i v : ℕ) (bs xs : List ℕ) → i < length xs → take 
     → take (i + 1) (set xs i v) ≡ wordsFrom c (i + 1) bs
 unfolding wordsFrom numberAt
 one-word-more c i v bs xs l e h = list-more i _ v xs l e h
-
-pub length-words-from : (c m : ℕ) (bs : List ℕ) → length (wordsFrom c m bs) ≡ m
-unfolding wordsFrom
-length-words-from c m bs = length-list m _
 
 -- a read of a block's words and counters, cut by the code, is one of those that the definitions cut
 pub same-read : (m n k c : ℕ) (bs ws out : List ℕ) (a : ReadAnswer) (after : List ℕ) → c ≡ counterBytes m n k → ws ≡ wordsFrom c m bs → Read m n k ws (take c bs) out a after

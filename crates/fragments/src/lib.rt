@@ -1,6 +1,7 @@
 // A grid read of a block that arrives in lumps: a start, lumps of bytes cut anywhere, and a finish, which is the read of the joined bytes.
+// `start_at`, `lump_at` and `finish_at` are lent the fields of a transfer and copy none of them; `start`, `lump` and `finish` take and return a whole one.
 use fragment_promises::LONGEST;
-use fragment_promises::Step;
+use fragment_promises::MissingAnswer;
 use fragment_promises::Transfer;
 use grid_promises::ReadAnswer;
 use grid_sets::LINES;
@@ -11,14 +12,14 @@ use refusals::SHORT_BLOCK;
 use refusals::WRONG_LENGTH;
 ghost use mathlib.Core.Path.{_≡_};
 ghost use mathlib.Core.List.{[]};
-ghost use Prim.Native.Nat.{_+_, _*_, _≤_};
+ghost use Prim.Native.Nat.{_+_, _*_, _≤_, min};
 ghost use lib.ListN.{length, take};
 ghost use Rattle.bits.specs.First.{First};
 ghost use Rattle.grid_promises.specs.Refusals.{InRange};
 ghost use Rattle.grid_promises.specs.Promises.{Read};
-ghost use Rattle.fragment_promises.specs.Transfers.{counterBytes, size as sizeIs, standing as standingIs, countersOf, cellsOf, wordsFrom};
+ghost use Rattle.fragment_promises.specs.Transfers.{counterBytes, size as sizeIs, standing as standingIs, countersOf, cellsOf, wordsFrom, transfer};
 ghost use Rattle.fragment_promises.specs.Demands.{lengthRefusals};
-ghost use Rattle.fragment_promises.specs.Promises.{Start, Lump, Finishes};
+ghost use Rattle.fragment_promises.specs.Promises.{Start, Lump, Finish, Finishes, Missing};
 ghost use Rattle.fragments.specs.Steps.{Judges};
 
 // After a refused lump so many bytes count as taken: more than any block has.
@@ -53,9 +54,35 @@ fn standing(rows: usize, columns: usize, k: usize, taken: usize) -> usize
     ACCEPTED
 }
 
-// Starts a transfer: no byte is taken yet.
+// Starts a transfer, whatever its fields held: no byte is taken yet.
+pub fn start_at(
+    tall: &mut usize,
+    wide: &mut usize,
+    levels: &mut usize,
+    taken: &mut usize,
+    bytes: &mut [u8; LONGEST],
+    rows: usize,
+    columns: usize,
+    k: usize,
+) -> usize
+    ensures { λ r. ⌜ Start rows columns k r (transfer (now (tall .exit)) (now (wide .exit)) (now (levels .exit)) (now (taken .exit)) (now (bytes .exit))) ⌝ }
+{
+    *tall = rows;
+    *wide = columns;
+    *levels = k;
+    *taken = 0;
+    *bytes = [0u8; LONGEST];
+    standing(rows, columns, k, 0)
+}
+
+// What a start and a lump return over a whole transfer: 0 or the number of the refusal, and the transfer from here on.
+pub struct Step {
+    pub number: usize,
+    pub transfer: Transfer,
+}
+
 pub fn start(rows: usize, columns: usize, k: usize) -> Step
-    ensures { λ r. ⌜ Start rows columns k r ⌝ }
+    ensures { λ r. ⌜ Start rows columns k (r .number) (r .transfer) ⌝ }
 {
     let number = standing(rows, columns, k, 0);
     let none = [0u8; LONGEST];
@@ -102,29 +129,60 @@ fn judge(rows: usize, columns: usize, k: usize, taken: usize, more: usize) -> Ju
     }
 }
 
-// Takes a lump of bytes, or notes that it is refused. One way for all of them: at each return the compiler would copy the transfer once more.
-pub fn lump(t: Transfer, bytes: &[u8]) -> Step
-    ensures { λ r. ⌜ Lump t (now (bytes .entry)) r ⌝ }
+// Takes a lump of bytes, or notes that it is refused. The array has the length that its type says: a proof does not see that through a reference.
+pub fn lump_at(
+    taken: &mut usize,
+    bytes: &mut [u8; LONGEST],
+    rows: usize,
+    columns: usize,
+    k: usize,
+    lump: &[u8],
+) -> usize
+    ensures { λ r. ⌜ (length (now (bytes .entry)) ≡ 560 → Lump (transfer rows columns k (now (taken .entry)) (now (bytes .entry))) (now (lump .entry)) r (transfer rows columns k (now (taken .exit)) (now (bytes .exit)))) ⌝ }
 {
-    let at = t.taken;
-    let j = judge(t.rows, t.columns, t.k, at, bytes.len());
+    let at = *taken;
+    let j = judge(rows, columns, k, at, lump.len());
+    *taken = j.taken;
     let more = j.more;
-    let mut next = t;
-    next.taken = j.taken;
     let mut i = 0;
     while i < more {
-        next.bytes[at + i] = bytes[i];
+        bytes[at + i] = lump[i];
         i += 1;
     }
-    Step {
-        number: j.number,
-        transfer: next,
-    }
+    j.number
 }
 
-// The refusal of a finish by numbers and lengths: 1, 9, 2, 8 or else 0.
-fn unfinished(rows: usize, columns: usize, k: usize, taken: usize, out: usize) -> usize
-    ensures { λ r. ⌜ First (lengthRefusals rows columns k taken taken out []) r ⌝ }
+pub fn lump(t: Transfer, bytes: &[u8]) -> Step
+    ensures { λ r. ⌜ Lump t (now (bytes .entry)) (r .number) (r .transfer) ⌝ }
+{
+    let mut taken = t.taken;
+    let mut held = t.bytes;
+    let number = lump_at(&mut taken, &mut held, t.rows, t.columns, t.k, bytes);
+    let transfer = Transfer {
+        rows: t.rows,
+        columns: t.columns,
+        k: t.k,
+        taken,
+        bytes: held,
+    };
+    Step { number, transfer }
+}
+
+// How many bytes of the block are missing, where so many were taken.
+pub fn missing(rows: usize, columns: usize, k: usize, taken: usize) -> MissingAnswer
+    ensures { λ r. ⌜ Missing rows columns k taken r ⌝ }
+{
+    let number = standing(rows, columns, k, taken);
+    if number != ACCEPTED {
+        return MissingAnswer { number, bytes: 0 };
+    }
+    let bytes = size(rows, columns, k) - taken;
+    MissingAnswer { number, bytes }
+}
+
+// The refusal of a finish by numbers and lengths, where so many bytes count as taken and so many are held: 1, 9, 2, 8 or else 0.
+fn unfinished(rows: usize, columns: usize, k: usize, taken: usize, held: usize, out: usize) -> usize
+    ensures { λ r. ⌜ First (lengthRefusals rows columns k taken held out []) r ⌝ }
 {
     let number = standing(rows, columns, k, taken);
     if number != ACCEPTED {
@@ -133,48 +191,96 @@ fn unfinished(rows: usize, columns: usize, k: usize, taken: usize, out: usize) -
     if out != rows {
         return WRONG_LENGTH;
     }
-    if taken < size(rows, columns, k) {
+    if held < size(rows, columns, k) {
         return SHORT_BLOCK;
     }
     ACCEPTED
 }
 
-// The first `count` words of 8 bytes, from byte `from` on, and 0 after them. Eight bytes are cut out by themselves: the compiler then makes one load of them.
-fn words_from(bytes: &[u8], from: usize, count: usize) -> [u64; LINES]
-    requires { ⌜ (count ≤ 64) × (from ≤ 48) × (from + 8 * count ≤ length (now bytes)) ⌝ }
-    ensures { λ r. ⌜ take count r ≡ wordsFrom from count (now (bytes .entry)) ⌝ }
+// The words of 8 bytes from byte `from` on, as many as `all` has. Eight bytes are cut out by themselves: the compiler then makes one load of them.
+fn words_into(bytes: &[u8], from: usize, all: &mut [u64])
+    requires { ⌜ (length (now all) ≤ 64) × (from ≤ 48) × (from + 8 * length (now all) ≤ length (now bytes)) ⌝ }
+    ensures { λ _. ⌜ now (all .exit) ≡ wordsFrom from (length (now (all .entry))) (now (bytes .entry)) ⌝ }
 {
-    let mut all = [0u64; LINES];
     let mut i = 0;
-    while i < count {
+    while i < all.len() {
         let at = from + 8 * i;
         let end = at + 8;
         all[i] = words::load(&bytes[at..end], 0);
         i += 1;
     }
-    all
 }
 
-// The read of a whole block.
+// The read of a whole block, with room for its cell words.
+fn read_by(
+    rows: usize,
+    columns: usize,
+    k: usize,
+    bytes: &[u8],
+    cells: &mut [u64],
+    out: &mut [u64],
+) -> ReadAnswer
+    requires { ⌜ InRange rows columns k × (length (now bytes) ≡ sizeIs rows columns k) × (length (now cells) ≡ rows) ⌝ }
+    ensures { λ r. ⌜ Read rows columns k (cellsOf rows columns k (now (bytes .entry))) (countersOf rows columns k (now (bytes .entry))) (now (out .entry)) r (now (out .exit)) ⌝ }
+{
+    let from = counter_bytes(rows, columns, k);
+    words_into(bytes, from, cells);
+    grid::read(rows, columns, k, &cells[..], &bytes[..from], out)
+}
+
+// The read of a whole block. The room is made here and filled where it is used: the compiler would copy an array that a function returns.
 fn read_whole(rows: usize, columns: usize, k: usize, bytes: &[u8], out: &mut [u64]) -> ReadAnswer
     requires { ⌜ InRange rows columns k × (length (now bytes) ≡ sizeIs rows columns k) ⌝ }
     ensures { λ r. ⌜ Read rows columns k (cellsOf rows columns k (now (bytes .entry))) (countersOf rows columns k (now (bytes .entry))) (now (out .entry)) r (now (out .exit)) ⌝ }
 {
-    let from = counter_bytes(rows, columns, k);
-    let cells = words_from(bytes, from, rows);
-    grid::read(rows, columns, k, &cells[..rows], &bytes[..from], out)
+    let mut cells = [0u64; LINES];
+    read_by(rows, columns, k, bytes, &mut cells[..rows], out)
 }
 
-// Reads the block into `out` if all of it was taken.
-pub fn finish(t: Transfer, out: &mut [u64]) -> ReadAnswer
-    ensures { λ r. ⌜ Finishes t (now (out .entry)) r (now (out .exit)) ⌝ }
+// How many bytes are held: those that were taken, or all that there are.
+fn held_bytes(taken: usize, room: usize) -> usize
+    ensures { λ r. ⌜ r ≡ min taken room ⌝ }
 {
-    let taken = t.taken;
-    let number = unfinished(t.rows, t.columns, t.k, taken, out.len());
+    if taken < room { taken } else { room }
+}
+
+// Reads the first `taken` of these bytes into `out` if they are a whole block.
+fn finish_held(
+    bytes: &[u8],
+    rows: usize,
+    columns: usize,
+    k: usize,
+    taken: usize,
+    out: &mut [u64],
+) -> ReadAnswer
+    ensures { λ r. ⌜ Finish rows columns k taken (take taken (now (bytes .entry))) (now (out .entry)) r (now (out .exit)) ⌝ }
+{
+    let held = held_bytes(taken, bytes.len());
+    let number = unfinished(rows, columns, k, taken, held, out.len());
     if number != ACCEPTED {
         return ReadAnswer { number, index: 0 };
     }
+    read_whole(rows, columns, k, &bytes[..held], out)
+}
+
+// Reads the block into `out` if all of it was taken.
+pub fn finish_at(
+    bytes: &[u8; LONGEST],
+    rows: usize,
+    columns: usize,
+    k: usize,
+    taken: usize,
+    out: &mut [u64],
+) -> ReadAnswer
+    ensures { λ r. ⌜ Finishes (transfer rows columns k taken (now (bytes .entry))) (now (out .entry)) r (now (out .exit)) ⌝ }
+{
+    finish_held(&bytes[..], rows, columns, k, taken, out)
+}
+
+pub fn finish(t: Transfer, out: &mut [u64]) -> ReadAnswer
+    ensures { λ r. ⌜ Finishes t (now (out .entry)) r (now (out .exit)) ⌝ }
+{
     // An array in a field is lent by a variable.
     let held = t.bytes;
-    read_whole(t.rows, t.columns, t.k, &held[..taken], out)
+    finish_at(&held, t.rows, t.columns, t.k, t.taken, out)
 }

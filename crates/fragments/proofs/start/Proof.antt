@@ -13,5 +13,5 @@ start-spec =
     (λ c κs. search needs)
     -- returns
     (λ c. let a = c .before .args in
-    subst (λ x. Start (a .rows) (a .columns) (a .k) (record { number = x; transfer = started (a .rows) (a .columns) (a .k) })) (sym (c .standing .ensures))
+    subst (λ x. Start (a .rows) (a .columns) (a .k) x (started (a .rows) (a .columns) (a .k))) (sym (c .standing .ensures))
     (start-promise (a .rows) (a .columns) (a .k))))

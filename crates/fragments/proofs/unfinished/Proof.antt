@@ -17,14 +17,14 @@ unfinished-spec =
     (tie.spec
     (λ c κs. search needs)
     -- returns
-    (λ c. let a = c .before .before .args in un-standing (a .rows) (a .columns) (a .k) (a .taken) (a .out) (c .before .standing .result) (c .before .standing .ensures) (c .if1 .taken))
+    (λ c. let a = c .before .before .args in un-standing (a .rows) (a .columns) (a .k) (a .taken) (a .held) (a .out) (c .before .standing .result) (c .before .standing .ensures) (c .if1 .taken))
     -- returns-2
-    (λ c. let e = c .before in let a = e .before .before .args in un-2 (a .rows) (a .columns) (a .k) (a .taken) (a .out) (stood e) (c .if2 .taken))
+    (λ c. let e = c .before in let a = e .before .before .args in un-2 (a .rows) (a .columns) (a .k) (a .taken) (a .held) (a .out) (stood e) (c .if2 .taken))
     -- size-requires
     (λ c κs. let e = c .before in let a = e .before .before .args in well-range (a .rows) (a .columns) (a .k) (a .taken) (stood e))
     -- returns-3
     (λ c. let e = c .before .before .before in let a = e .before .before .args in
-    un-8 (a .rows) (a .columns) (a .k) (a .taken) (a .out) (stood e) (c .before .before .if2 .left) (omega (arith, c .before .size .ensures, c .if3 .taken)))
+    un-8 (a .rows) (a .columns) (a .k) (a .taken) (a .held) (a .out) (stood e) (c .before .before .if2 .left) (omega (arith, c .before .size .ensures, c .if3 .taken)))
     -- returns-4
     (λ c. let e = c .before .before .before in let a = e .before .before .args in
-    un-0 (a .rows) (a .columns) (a .k) (a .taken) (a .out) (stood e) (c .before .before .if2 .left) (omega (arith, c .before .size .ensures, c .if3 .left))))
+    un-0 (a .rows) (a .columns) (a .k) (a .taken) (a .held) (a .out) (stood e) (c .before .before .if2 .left) (omega (arith, c .before .size .ensures, c .if3 .left))))

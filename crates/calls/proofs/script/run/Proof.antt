@@ -22,7 +22,7 @@ run-spec =
     -- start-requires
     (λ c κs. search needs)
     -- cast-steps
-    (λ c. let s = c .before .start in record { fits = start-small _ _ _ (s .result) (s .ensures) })
+    (λ c. let s = c .before .start in record { fits = start-small _ _ _ _ _ (s .ensures) })
     -- slice-write-steps
     (λ c. omega (arith, c .before .before .before .before .before .before .pre))
     -- loop-holds

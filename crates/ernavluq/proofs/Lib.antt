@@ -1,0 +1,6 @@
+mod Param
+mod LentField
+mod LentAll
+mod LentBytes
+mod SharedBytes
+mod SharedNumbers
