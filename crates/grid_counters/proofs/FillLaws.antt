@@ -1,25 +1,24 @@
 -- Laws of the way from planes to bytes: the words of the bytes' bits, and their bytes stored. Assumes nothing.
-use Prim.Native.Nat.{ℕ, _+_, _-_, _*_, _/_, _%_, _^_, _≤_, _<_}
+use Prim.Native.Nat.{ℕ, _+_, _*_, _/_, _%_, _^_, _≤_, _<_}
 use mathlib.Core.Path.{_≡_, refl, sym, ap, ap₂, subst, _∙_}
-use mathlib.Core.Bool.{Bool, _&&_, _||_}
+use mathlib.Core.Bool.{_&&_, _||_}
 use mathlib.Core.List.{List}
-use mathlib.Core.Logic.{⊎-elim}
 use native.Mathlib.Nat.{mod-lt, mod-one, div-one, mul-add-div, mul-add-mod-self-left, mul-le-mul-left}
 use native.Mathlib.Omega.{arith}
 use lib.Bits.{bitOr, or-lt}
 use lib.Dec.{eqb, lit<, lit≤}
-use lib.ListN.{length, getD, set}
+use lib.ListN.{length, getD}
 use lib.Pow.{pow-pos}
-use lib.Seq.{getD-set-same, getD-set-other}
 use Rattle.bits.specs.Bits.{has, word, words, bytes, Below}
-use Rattle.bits.proofs.TestLaws.{lt-or-le}
-use Rattle.bits.proofs.BoundLaws.{list-ext, list-getD}
-use Rattle.bits.proofs.BitLaws.{has-low, has-or, has-shr, has-word, word-lt, word-ext, is-word}
+use Rattle.bits.proofs.BoundLaws.{list-ext}
+use Rattle.bits.proofs.BitLaws.{has-or, has-shr, has-word, word-lt, word-ext, is-word}
 use Rattle.bits.proofs.ByteLaws.{past-end}
+use Rattle.words.specs.Stored.{Filled, Stores}
+use Rattle.words.proofs.StoreLaws.{bits-of, filled-past, filled-none, filled-all}
 use Rattle.rdis.specs.Packing.{bytesFor, inOrder, packed}
 use Rattle.rdis.proofs.PackingLaws.{packed-bits, length-in-order, row-in-order, column-in-order}
 use Rattle.grid_counters.specs.declared.planes.Planes.{Planes}
-use Rattle.grid_counters.specs.Steps.{AreBits, Filled, bitOf, spaced, Stores, Pairs, StoresPlanes}
+use Rattle.grid_counters.specs.Steps.{AreBits, bitOf, spaced, Pairs, StoresPlanes}
 use Rattle.grid_counters.proofs.PlaneLaws.{bits-as, bits-ext}
 use Rattle.grid_counters.proofs.SpacedLaws.{spaced-bit, spaced-moved, pick-two}
 
@@ -59,38 +58,6 @@ module _ (x k t : ℕ) (f : ℕ → ℕ) (e : x ≡ word 64 (λ i. has (f (t + i
   pub from-line : (s i : ℕ) → s + i < 64 → has (x / 2 ^ s) i ≡ has (f (t + s + i)) k
   from-line s i l = let there : t + (s + i) ≡ t + s + i = omega arith in has-shr x s i ∙ in-plane (s + i) l ∙ ap (λ u. has (f u) k) there
 
--- ---- bytes of a word
-
-pub bits-of : (v : ℕ) (f : ℕ → Bool) → v ≡ word 64 f → (i : ℕ) → i < 64 → has v i ≡ f i
-bits-of v f e i l = ap (λ y. has y i) e ∙ has-word 64 f i l
-
-pub byte-stored : (q v : ℕ) (bs : List ℕ) → q < length bs → Stores q 1 v bs (set bs q (v % 256))
-byte-stored q v bs h f k e t u w =
-    ⊎-elim (λ r. getD-set-other bs q t (v % 256) 0 (λ z. absurd (omega arith)) ∙ k t r (omega arith))
-    (λ r. let here : q ≡ t = omega arith in
-    let byte : v % 2 ^ 8 ≡ word 8 (λ j. f (8 * q + j)) = is-word 8 (v % 2 ^ 8) (λ j. f (8 * q + j)) (mod-lt _ (pow-pos 8)) (λ j l. has-low 8 v j l ∙ e j l) in
-    subst (λ y. getD (set bs q (v % 256)) y 0 ≡ word 8 (λ j. f (8 * y + j))) here (getD-set-same bs q (v % 256) 0 h ∙ byte)) (lt-or-le t q)
-
--- bytes stored after others, which they may overlap: where they do, both store the same
-pub both-stored : (q a s b v : ℕ) (before middle after : List ℕ) → s ≤ a → a ≤ s + b → Stores q a v before middle → Stores (q + s) b (v / 2 ^ (8 * s)) middle after
-    → Stores q (s + b) v before after
-both-stored q a s b v before middle after h k one two f start e =
-    let most = one f start (λ i l. e i (omega arith)) in
-    let rest : (i : ℕ) → i < 8 * b → has (v / 2 ^ (8 * s)) i ≡ f (8 * (q + s) + i) =
-    λ i l. let there : 8 * q + (8 * s + i) ≡ 8 * (q + s) + i = omega arith in has-shr v (8 * s) i ∙ e (8 * s + i) (omega arith) ∙ ap f there in
-    λ t l. two f (λ t l. most t (omega arith)) rest t (omega arith)
-
--- past the last byte there is nothing to fill
-pub filled-past : (q r : ℕ) (f : ℕ → Bool) (bs : List ℕ) → length bs ≤ q → Filled q f bs → Filled r f bs
-filled-past q r f bs h k t _ l = k t (omega arith) l
-
-pub filled-none : (f : ℕ → Bool) (bs : List ℕ) → Filled 0 f bs
-filled-none f bs t h l = absurd (omega arith)
-
-filled-all : (q n : ℕ) (f : ℕ → Bool) (bs : List ℕ) → length bs ≡ n → n ≤ q → Filled q f bs → bs ≡ bytes n f
-unfolding bytes words
-filled-all q n f bs e h k = list-getD n (λ i. word 8 (λ k. f (8 * i + k))) 0 bs e (λ i l. k i (omega arith) (omega arith))
-
 -- ---- counters stored
 
 pub singles-stored : (w : ℕ) (first second : Planes) (before middle after : List ℕ) → w ≡ 1 → Stores 0 8 (first .low) before middle → Stores 8 8 (second .low) middle after
@@ -98,7 +65,7 @@ pub singles-stored : (w : ℕ) (first second : Planes) (before middle after : Li
 singles-stored w first second before middle after e s u =
     subst (λ w. StoresPlanes w first second after) (sym e)
     (λ f a b.
-    u (bitOf 1 f) (s (bitOf 1 f) (filled-none (bitOf 1 f) before) (bits-of (first .low) _ (single-word 0 0 (first .low) f refl (from-first f first a .lower))))
+    u .fills (bitOf 1 f) (s .fills (bitOf 1 f) (filled-none (bitOf 1 f) before) (bits-of (first .low) _ (single-word 0 0 (first .low) f refl (from-first f first a .lower))))
     (bits-of (second .low) _ (single-word 64 8 (second .low) f refl (b .lower))))
 
 -- 64 counters of two bits, in two words
@@ -109,7 +76,7 @@ module _ (t q v x : ℕ) (p : Planes) (before middle after : List ℕ) (f : ℕ 
       let one = from-counter 2 t q v f (lit< tt) h (pv (λ i. f (t + i)) (λ i l. in-plane (p .low) 0 t f (b .lower) i (omega arith)) (λ i l. in-plane (p .high) 1 t f (b .higher) i (omega arith))) in
       let two = from-counter 2 (t + 32) (q + 8) x f (lit< tt) (omega arith)
       (px (λ i. f (t + 32 + i)) (λ i l. from-line (p .low) 0 t f (b .lower) 32 i (omega arith)) (λ i l. from-line (p .high) 1 t f (b .higher) 32 i (omega arith))) in
-      sx (bitOf 2 f) (sv (bitOf 2 f) k (bits-of v _ one)) (bits-of x _ two)
+      sx .fills (bitOf 2 f) (sv .fills (bitOf 2 f) k (bits-of v _ one)) (bits-of x _ two)
 
 -- there are no bytes for the others
 pub half-stored : (w : ℕ) (first second : Planes) → w ≡ 2 → (v x : ℕ) (b0 b1 b2 : List ℕ) → length b2 ≤ 16

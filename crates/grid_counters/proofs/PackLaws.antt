@@ -1,18 +1,17 @@
 -- Laws of the width of counters, of a part of a number's digits, and of the bits past the last counter. Assumes nothing.
 use mathlib.Core.Path.{_≡_, refl, sym, ap, _∙_}
-use mathlib.Core.Bool.{Bool, true, false, cond}
 use mathlib.Core.List.{List, [], _∷_}
 use Prim.Native.Nat.{ℕ, zero, suc, _+_, _*_, _/_, _%_, _^_, _-_, _<_, _≤_}
 use native.Mathlib.Nat.{pow-zero, pow-suc, div-lt-iff-lt-mul, mul-le-mul, mul-assoc, mul-add-mod-self-right, zero-mul, add-mul, one-mul, div-eq-of-lt, mul-one, div-add-mod}
 use native.Mathlib.Omega.{arith}
 use native.Mathlib.Decide.{decLt}
 use borrow.Author.Tests.{eq-eqb, ne-eqb, lt-ltb, le-ltb}
-use lib.Dec.{eqb, leb, ltb}
+use lib.Dec.{eqb, ltb}
 use lib.ListN.{length, getD, take, drop, drop-of-length-le}
 use lib.Pow.{pow-pos, pow-add, shr-shr, field}
 use Rattle.bits.specs.Bits.{number, Below}
 use Rattle.bits.proofs.DigitLaws.{number-drop, number-step, pow-mul}
-use Rattle.rdis.specs.Packing.{width, bytesFor, spareClear}
+use Rattle.rdis.specs.Packing.{bytesFor, spareClear}
 
 -- ---- small numbers
 

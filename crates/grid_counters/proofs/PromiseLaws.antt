@@ -1,18 +1,18 @@
 -- What a code proof cites at each return: from the tests' values there to the whole promise. Assumes nothing.
-use Prim.Native.Nat.{ℕ, _+_, _*_, _/_, _%_, _^_, _<_, _≤_}
+use Prim.Native.Nat.{ℕ, _+_, _*_, _/_, _%_, _<_, _≤_}
 use mathlib.Core.Path.{_≡_, refl, sym, ap, ap₂, _∙_}
 use mathlib.Core.Bool.{Bool, true, false, not, cond, _&&_}
 use mathlib.Core.List.{List}
 use mathlib.Core.Logic.{_≢_, ⊎-elim}
 use native.Mathlib.Nat.{mod-lt, lt-of-lt-of-le}
 use native.Mathlib.Omega.{arith}
-use borrow.Author.Tests.{leb-true, ltb-true, eqb-true, eq-eqb, le-leb, lt-ltb, le-ltb, ltb-false}
-use lib.Dec.{eqb, leb, ltb}
+use borrow.Author.Tests.{ltb-true, lt-ltb, le-ltb}
+use lib.Dec.{ltb}
 use lib.ListN.{length, getD, replicate, length-append}
 use lib.Pow.{pow-pos, pow-mono}
 use Rattle.bits.specs.Bits.{sum, list, has, word, words, number, bytes, Below}
-use Rattle.bits.proofs.TestLaws.{clash, and-in, and-left, and-right, lt-or-le}
-use Rattle.bits.proofs.BoundLaws.{some-none, none-below, sum-num-le, length-list, list-ext}
+use Rattle.bits.proofs.TestLaws.{clash, and-left, lt-or-le}
+use Rattle.bits.proofs.BoundLaws.{some-none, length-list, list-ext}
 use Rattle.bits.proofs.BitLaws.{has-zero, is-word}
 use Rattle.rdis.specs.Packing.{width, bytesFor, inOrder, packed, counter, rowCounter, columnCounter, spareClear, above, firstAbove}
 use Rattle.rdis.proofs.PackingLaws.{in-order-below, packed-bits, width-some, bits-few}
@@ -21,7 +21,7 @@ use Rattle.grid_sets.proofs.SetLaws.{some-line, first-line}
 use Rattle.grid_sets.proofs.RoomLaws.{has-room, packs}
 use Rattle.grid_counters.specs.declared.judge.Judged.{Judged}
 use Rattle.grid_counters.specs.Steps.{Judges}
-use Rattle.grid_sets.specs.Promises.{fit, roomy, unpackNumber, Unpack, packable, Pack}
+use Rattle.grid_sets.specs.Promises.{roomy, unpackNumber, Unpack, packable, Pack}
 
 -- ---- from bytes to sets
 

@@ -10,13 +10,15 @@ use lib.Dec.{eqb, lit<, lit≤}
 use lib.ListN.{length}
 use Rattle.bits.specs.Bits.{has, word, Below}
 use Rattle.bits.proofs.BitLaws.{has-or, word-lt, word-ext, is-word}
+use Rattle.words.specs.Stored.{Filled, Stores}
+use Rattle.words.proofs.StoreLaws.{bits-of, filled-past, filled-none}
 use Rattle.rdis.specs.Packing.{bytesFor, inOrder, packed}
 use Rattle.rdis.proofs.PackingLaws.{row-in-order, column-in-order}
 use Rattle.grid_counters.specs.declared.threes.Threes.{Threes}
-use Rattle.grid_counters.specs.Steps.{AreThrees, Filled, bitOf, spaced, Stores, Triples, Parts, StoresThrees, FillsPlanes}
+use Rattle.grid_counters.specs.Steps.{AreThrees, bitOf, spaced, Triples, Parts, StoresThrees, FillsPlanes}
 use Rattle.grid_counters.proofs.ShiftLaws.{joined, from-bit}
 use Rattle.grid_counters.proofs.SpacedLaws.{spaced-bit, spaced-moved, thirds-inside, pick-three}
-use Rattle.grid_counters.proofs.FillLaws.{bit-from, from-counter, in-plane, from-line, bits-of, filled-past, filled-none, all, all-past, all-stored}
+use Rattle.grid_counters.proofs.FillLaws.{bit-from, from-counter, in-plane, from-line, all, all-past, all-stored}
 use Rattle.grid_counters.proofs.ThreeLaws.{threes-as, threes-ext}
 
 -- the lowest bits of three planes, each at its own of every three places
@@ -78,9 +80,9 @@ module _ (q : ℕ) (p : Threes) (a b c d : ℕ) (parts : Parts p a b c d) where
       → Stores (q + 16) 8 (bitOr (d * 2 ^ 16 % 2 ^ 64) (c / 2 ^ 32)) b2 b3 → StoresThrees q p b0 b3
   threes-stored b0 b1 b2 b3 s1 s2 s3 f t h bits k =
       let g = bitOf 3 f in
-      let one = s1 g k (bits-of _ _ (from-counter 3 t q _ f (lit< tt) h (word-1 f t h bits))) in
-      let two = s2 g (λ i l. one i (omega arith)) (bits-of _ _ (placed f t h bits 8 _ (word-2 f t h bits))) in
-      let three = s3 g (λ i l. two i (omega arith)) (bits-of _ _ (placed f t h bits 16 _ (word-3 f t h bits))) in
+      let one = s1 .fills g k (bits-of _ _ (from-counter 3 t q _ f (lit< tt) h (word-1 f t h bits))) in
+      let two = s2 .fills g (λ i l. one i (omega arith)) (bits-of _ _ (placed f t h bits 8 _ (word-2 f t h bits))) in
+      let three = s3 .fills g (λ i l. two i (omega arith)) (bits-of _ _ (placed f t h bits 16 _ (word-3 f t h bits))) in
       λ i l. three i (omega arith)
 
 -- the first 64 counters, numbered as the others are

@@ -4,8 +4,8 @@ use mathlib.Core.Path.{_≡_}
 use mathlib.Core.Bool.{Bool, cond, _&&_}
 use mathlib.Core.List.{List}
 use lib.Dec.{ltb}
-use lib.ListN.{length, getD}
 use Rattle.bits.specs.Bits.{has, word}
+use Rattle.words.specs.Stored.{Filled}
 use Rattle.grid_counters.specs.declared.planes.Planes.{Planes}
 use Rattle.grid_counters.specs.declared.threes.Threes.{Threes}
 use Rattle.grid_counters.specs.declared.judge.Judged.{Judged}
@@ -35,15 +35,6 @@ FromFour a b c d r = (f : ℕ → Bool) → FromThirds a f → FromThirds b (λ 
 -- the bits of v at every d places, with 0 between
 abbrev pub spaced : ℕ → ℕ → ℕ → Bool
 spaced d v p = ltb (p % d) 1 && has v (p / d)
-
--- the first q bytes are made of the bits f, or all bytes where there are fewer
-abbrev pub Filled : ℕ → (ℕ → Bool) → List ℕ → Type 0
-Filled q f bs = (t : ℕ) → t < q → t < length bs → getD bs t 0 ≡ word 8 (λ k. f (8 * t + k))
-
--- the n lowest bytes of v are stored from byte q on: where the first q bytes are made of the bits f, and those bytes of v of the bits that follow, so are the
--- first q + n
-abbrev pub Stores : ℕ → ℕ → ℕ → List ℕ → List ℕ → Type 0
-Stores q n v before after = (f : ℕ → Bool) → Filled q f before → ((i : ℕ) → i < 8 * n → has v i ≡ f (8 * q + i)) → Filled (q + n) f after
 
 -- v has the bits of 32 counters of two bits, which are the lowest bits of two planes
 abbrev pub Pairs : ℕ → ℕ → ℕ → Type 0

@@ -1,8 +1,8 @@
 // The bytes of counters that are 0 or 1, as those of one level are: a word says which of 64 are 1.
 use crate::fill::apart;
-use crate::fill::store;
 use crate::threes::apart_by_three;
 use crate::threes::store_parts;
+use words::store;
 ghost use Prim.Native.Nat.{_≤_, _<_};
 ghost use Rattle.grid_counters.specs.Steps.{StoresThrees, StoresOnes};
 

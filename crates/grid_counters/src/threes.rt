@@ -1,5 +1,4 @@
 // Counters of three bits, which stand over the ends of bytes: their planes from bytes, the sets of their lines, their planes from sets, and their bytes.
-use crate::fill::store;
 use crate::planes::Planes;
 use crate::planes::cut;
 use crate::planes::load;
@@ -10,6 +9,7 @@ use crate::tally::front;
 use crate::tally::second;
 use crate::tally::with_set;
 use grid_sets::LEVELS;
+use words::store;
 ghost use mathlib.Core.Path.{_≡_};
 ghost use mathlib.Core.Bool.{Bool};
 ghost use Prim.Native.Nat.{ℕ, _+_, _*_, _%_, _≤_, _<_};

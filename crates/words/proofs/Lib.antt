@@ -1,3 +1,4 @@
 pub mod LowBitsLaws
 pub mod CopyLaws
 pub mod LoadLaws
+pub mod StoreLaws

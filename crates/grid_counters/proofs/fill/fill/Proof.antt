@@ -10,7 +10,7 @@ fill-spec =
     tie.close
     (tie.spec
     -- store-requires, store-requires-2
-    (λ c κs. omega arith) (λ c κs. omega arith)
+    (λ c κs. search needs) (λ c κs. search needs)
     -- same-length
     (λ c. search needs)
     -- returns
@@ -20,7 +20,7 @@ fill-spec =
     let a = e .before .before .before .before .args in
     singles-stored (a .width) (a .first) (a .second) (a .out .now) (e .store .last .0) (d .store2 .last .0) (e .before .before .if1 .taken) (e .store .ensures) (d .store2 .ensures))
     -- pairs-requires, store-requires-3, pairs-requires-2, store-requires-4
-    (λ c κs. search needs) (λ c κs. omega arith) (λ c κs. search needs) (λ c κs. omega arith)
+    (λ c κs. search needs) (λ c κs. search needs) (λ c κs. search needs) (λ c κs. search needs)
     -- same-length-2
     (λ c. search needs)
     -- returns-2
@@ -34,7 +34,7 @@ fill-spec =
     half-stored (a .width) (a .first) (a .second) two (d1 .before .pairs .result) (d2 .before .pairs2 .result) (a .out .now) (d1 .store3 .last .0) (d2 .store4 .last .0) (c .if2 .taken)
     (d1 .before .pairs .ensures) (d1 .store3 .ensures) (d2 .before .pairs2 .ensures) (d2 .store4 .ensures))
     -- pairs-requires-3, store-requires-5, pairs-requires-4, store-requires-6
-    (λ c κs. search needs) (λ c κs. omega arith) (λ c κs. search needs) (λ c κs. omega arith)
+    (λ c κs. search needs) (λ c κs. search needs) (λ c κs. search needs) (λ c κs. search needs)
     -- same-length-3
     (λ c. search needs)
     -- returns-3

@@ -13,7 +13,7 @@ fill-ones-spec =
     tie.close
     (tie.spec
     -- store-requires, store-requires-2
-    (λ c κs. omega arith) (λ c κs. omega arith)
+    (λ c κs. search needs) (λ c κs. search needs)
     -- same-length
     (λ c. search needs)
     -- returns
@@ -24,7 +24,7 @@ fill-ones-spec =
     ones-stored (a .width) (a .first) (a .second) (d .store2 .last .0)
     (singles-stored (a .width) (lowest (a .first)) (lowest (a .second)) (a .out .now) (e .store .last .0) (d .store2 .last .0) (e .before .before .if1 .taken) (e .store .ensures) (d .store2 .ensures)))
     -- apart-requires, store-requires-3, apart-requires-2, store-requires-4
-    (λ c κs. search needs) (λ c κs. omega arith) (λ c κs. search needs) (λ c κs. omega arith)
+    (λ c κs. search needs) (λ c κs. search needs) (λ c κs. search needs) (λ c κs. search needs)
     -- same-length-2
     (λ c. search needs)
     -- returns-2
@@ -37,7 +37,7 @@ fill-ones-spec =
     (half-stored (a .width) (lowest (a .first)) (lowest (a .second)) (t .if2 .taken) (d1 .before .apart .result) (d2 .before .apart2 .result) (a .out .now) (d1 .store3 .last .0) (d2 .store4 .last .0)
     (c .if3 .taken) (alone (a .first) _ (d1 .before .apart .ensures)) (d1 .store3 .ensures) (alone (a .first / 2 ^ 32) _ (d2 .before .apart2 .ensures)) (d2 .store4 .ensures)))
     -- apart-requires-3, store-requires-5, apart-requires-4, store-requires-6
-    (λ c κs. search needs) (λ c κs. omega arith) (λ c κs. search needs) (λ c κs. omega arith)
+    (λ c κs. search needs) (λ c κs. search needs) (λ c κs. search needs) (λ c κs. search needs)
     -- same-length-3
     (λ c. search needs)
     -- returns-3

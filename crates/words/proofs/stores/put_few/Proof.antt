@@ -2,10 +2,10 @@ use Prim.Native.Nat.{_+_, _-_}
 use mathlib.Core.Path.{_≡_, subst}
 use borrow.Author.Needs.{needs}
 use native.Mathlib.Omega.{arith}
-use Rattle.grid_counters.specs.Steps.{Stores}
-use Rattle.grid_counters.proofs.FillLaws.{both-stored}
-use Rattle.grid_counters.proofs.fill.put_few.Statement.{statement}
-use Rattle.grid_counters.proofs.fill.put_few.Tie as tie
+use Rattle.words.specs.Stored.{Stores}
+use Rattle.words.proofs.StoreLaws.{both-stored}
+use Rattle.words.proofs.stores.put_few.Statement.{statement}
+use Rattle.words.proofs.stores.put_few.Tie as tie
 
 pub put-few-spec : {M : Type 1} → statement M
 put-few-spec =

@@ -1,8 +1,8 @@
 use borrow.Author.Needs.{needs}
 use native.Mathlib.Omega.{arith}
-use Rattle.grid_counters.proofs.FillLaws.{byte-stored}
-use Rattle.grid_counters.proofs.fill.put.Statement.{statement}
-use Rattle.grid_counters.proofs.fill.put.Tie as tie
+use Rattle.words.proofs.StoreLaws.{byte-stored}
+use Rattle.words.proofs.stores.put.Statement.{statement}
+use Rattle.words.proofs.stores.put.Tie as tie
 
 pub put-spec : {M : Type 1} → statement M
 put-spec =
