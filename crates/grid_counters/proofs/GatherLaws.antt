@@ -135,7 +135,8 @@ pub seconds-are : (v : ℕ) → step 4294967295 16 (sixteens v) ≡ word 32 (λ 
 unfolding word
 seconds-are v =
     let f : ℕ → Bool = λ i. has v (2 * i) in
-    gathered 64 32 4294967295 _ f (lit≤ tt) (lit< tt) (fold-two 64 32 16 1 4294967295 _ f (lit≤ tt) refl refl (fold-two 64 16 8 2 281470681808895 _ f (lit≤ tt) refl refl
+    gathered 64 32 4294967295 _ f (lit≤ tt) (lit< tt)
+    (fold-two 64 32 16 1 4294967295 _ f (lit≤ tt) refl refl (fold-two 64 16 8 2 281470681808895 _ f (lit≤ tt) refl refl
     (fold-two 64 8 4 4 71777214294589695 _ f (lit≤ tt) refl refl (fold-two 64 4 2 8 1085102592571150095 _ f (lit≤ tt) refl refl
     (fold-two 64 2 1 16 3689348814741910323 _ f (lit≤ tt) refl refl (every 64 2 6148914691236517205 v refl))))))
 
@@ -152,7 +153,8 @@ pub thirds-are : (v : ℕ) → third (bitAnd 40210710958665 v) ≡ word 16 (λ i
 unfolding word
 thirds-are v =
     let f : ℕ → Bool = λ i. has v (3 * i) in
-    gathered 48 16 65535 _ f (lit≤ tt) (lit< tt) (fold-two 48 24 8 1 65535 _ f (lit≤ tt) refl refl (fold-two 48 12 4 2 4278190335 _ f (lit≤ tt) refl refl
+    gathered 48 16 65535 _ f (lit≤ tt) (lit< tt)
+    (fold-two 48 24 8 1 65535 _ f (lit≤ tt) refl refl (fold-two 48 12 4 2 4278190335 _ f (lit≤ tt) refl refl
     (fold-two 48 6 2 4 1031043870735 _ f (lit≤ tt) refl refl (fold-two 48 3 1 8 13403570319555 _ f (lit≤ tt) refl refl (every 48 3 40210710958665 v refl)))))
 
 pub no-thirds : (v : ℕ) → bitAnd 40210710958665 v ≡ 0 → 0 ≡ word 16 (λ i. has v (3 * i))

@@ -67,7 +67,8 @@ pub singles-stored : (w : ℕ) (first second : Planes) (before middle after : Li
     → StoresPlanes w first second before after
 singles-stored w first second before middle after e s u = subst (λ w. StoresPlanes w first second before after) (sym e) (record {
   fills = λ f a b.
-      u .fills (bitOf 1 f) (s .fills (bitOf 1 f) (filled-none (bitOf 1 f) before) (bits-of (first .low) _ (single-word 0 0 (first .low) f refl (from-first f first a .lower))))
+      u .fills (bitOf 1 f) (s .fills (bitOf 1 f) (filled-none (bitOf 1 f) before)
+      (bits-of (first .low) _ (single-word 0 0 (first .low) f refl (from-first f first a .lower))))
       (bits-of (second .low) _ (single-word 64 8 (second .low) f refl (b .lower)));
   keeps = λ t l. u .keeps t (omega arith) ∙ s .keeps t (omega arith);
 })
@@ -84,25 +85,30 @@ module _ (t q v x : ℕ) (p : Planes) (before middle after : List ℕ) (f : ℕ 
 
 -- there are no bytes for the others
 pub half-stored : (w : ℕ) (first second : Planes) → w ≡ 2 → (v x : ℕ) (b0 b1 b2 : List ℕ) → length b2 ≤ 16
-    → Pairs (first .low) (first .high) v → Stores 0 8 v b0 b1 → Pairs (first .low / 2 ^ 32) (first .high / 2 ^ 32) x → Stores 8 8 x b1 b2 → StoresPlanes w first second b0 b2
+    → Pairs (first .low) (first .high) v → Stores 0 8 v b0 b1 → Pairs (first .low / 2 ^ 32) (first .high / 2 ^ 32) x → Stores 8 8 x b1 b2
+    → StoresPlanes w first second b0 b2
 half-stored w first second e v x b0 b1 b2 l pv sv px sx =
     subst (λ w. StoresPlanes w first second b0 b2) (sym e) (record {
-      fills = λ f a b. filled-past 16 32 (bitOf 2 f) b2 l (both-halves 0 0 v x first b0 b1 b2 f refl (from-first f first a) pv sv px sx (filled-none (bitOf 2 f) b0));
+      fills = λ f a b.
+          filled-past 16 32 (bitOf 2 f) b2 l (both-halves 0 0 v x first b0 b1 b2 f refl (from-first f first a) pv sv px sx (filled-none (bitOf 2 f) b0));
       keeps = λ t k. sx .keeps t (omega arith) ∙ sv .keeps t (omega arith);
     })
 
 pub pairs-stored : (w : ℕ) (first second : Planes) → w ≡ 2 → (v x y z : ℕ) (b0 b1 b2 b3 b4 : List ℕ)
     → Pairs (first .low) (first .high) v → Stores 0 8 v b0 b1 → Pairs (first .low / 2 ^ 32) (first .high / 2 ^ 32) x → Stores 8 8 x b1 b2
-    → Pairs (second .low) (second .high) y → Stores 16 8 y b2 b3 → Pairs (second .low / 2 ^ 32) (second .high / 2 ^ 32) z → Stores 24 8 z b3 b4 → StoresPlanes w first second b0 b4
+    → Pairs (second .low) (second .high) y → Stores 16 8 y b2 b3 → Pairs (second .low / 2 ^ 32) (second .high / 2 ^ 32) z → Stores 24 8 z b3 b4
+    → StoresPlanes w first second b0 b4
 pairs-stored w first second e v x y z b0 b1 b2 b3 b4 pv sv px sx py sy pz sz =
     subst (λ w. StoresPlanes w first second b0 b4) (sym e) (record {
       fills = λ f a b.
-          both-halves 64 16 y z second b2 b3 b4 f refl b py sy pz sz (both-halves 0 0 v x first b0 b1 b2 f refl (from-first f first a) pv sv px sx (filled-none (bitOf 2 f) b0));
+          both-halves 64 16 y z second b2 b3 b4 f refl b py sy pz sz
+          (both-halves 0 0 v x first b0 b1 b2 f refl (from-first f first a) pv sv px sx (filled-none (bitOf 2 f) b0));
       keeps = λ t k. sz .keeps t (omega arith) ∙ sy .keeps t (omega arith) ∙ sx .keeps t (omega arith) ∙ sv .keeps t (omega arith);
     })
 
 -- counters of at most two bits are stored whatever their third bits
-pub narrow-filled : (w : ℕ) (first second : Threes) (before after : List ℕ) → StoresPlanes w (first .planes) (second .planes) before after → FillsPlanes w first second before after
+pub narrow-filled : (w : ℕ) (first second : Threes) (before after : List ℕ) → StoresPlanes w (first .planes) (second .planes) before after
+    → FillsPlanes w first second before after
 narrow-filled w first second before after s = record { fills = λ f a b. s .fills f (a .bits) (b .bits); keeps = s .keeps }
 
 -- ---- all counters
@@ -139,8 +145,9 @@ module _ (m n : ℕ) (r c : ℕ → ℕ) where
     pub all-packed : (w : ℕ) → 0 < w → Below (2 ^ w) (inOrder m n r c) → (rows columns first second : Planes) → AreBits m r rows → AreBits n c columns
         → ((f : ℕ → ℕ) → AreBits m f rows → AreBits 64 (λ i. f (m + i)) columns → AreBits 64 f first)
         → ((f : ℕ → ℕ) → AreBits 64 (λ i. f (m + i)) columns → ((t : ℕ) → m + 64 ≤ t → f t ≡ 0) → AreBits 64 (λ i. f (64 + i)) second)
-        → (before after : List ℕ) → length after ≡ bytesFor w (m + n) → (v : ℕ) → v ≡ w → StoresPlanes v first second before after → after ≡ packed w (inOrder m n r c)
-    all-packed w z b rows columns first second hr hc one two before after l v e s =
+        → (before after : List ℕ) → length after ≡ bytesFor w (m + n) → StoresPlanes w first second before after
+        → after ≡ packed w (inOrder m n r c)
+    all-packed w z b rows columns first second hr hc one two before after l s =
         let start = one all (rows-first rows hr) (columns-after columns hc) in
         let rest = two all (columns-after columns hc) (λ t h. all-past t (omega arith)) in
-        all-stored w after z b l (subst (λ x. StoresPlanes x first second before after) e s .fills all start rest)
+        all-stored w after z b l (s .fills all start rest)

@@ -70,7 +70,8 @@ pub one-packed : (m n : ℕ) (rows columns : List ℕ) → m ≤ 64 → n ≤ 64
     → inside ≡ word (min m 64) (λ _. true) → across ≡ word (min n 64) (λ _. true)
     → ((f : ℕ → Bool) → bitAnd inside (getD rows 0 0) ≡ word m f → bitAnd across (getD columns 0 0) ≡ word 64 (λ i. f (m + i)) → first ≡ word 64 f)
     → ((f : ℕ → Bool) → bitAnd across (getD columns 0 0) ≡ word 64 (λ i. f (m + i)) → ((t : ℕ) → m + 64 ≤ t → f t ≡ false) → second ≡ word 64 (λ i. f (64 + i)))
-    → (before after : List ℕ) → length after ≡ bytesFor w (m + n) → FillsPlanes w (onesOf first) (onesOf second) before after → after ≡ packed w (inOrder m n (times rows 1) (times columns 1))
+    → (before after : List ℕ) → length after ≡ bytesFor w (m + n) → FillsPlanes w (onesOf first) (onesOf second) before after
+    → after ≡ packed w (inOrder m n (times rows 1) (times columns 1))
 one-packed m n rows columns few less w z inside across first second ei ea front back before after l s =
     let r = times rows 1 in
     let c = times columns 1 in

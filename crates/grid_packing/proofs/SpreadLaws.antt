@@ -128,7 +128,8 @@ thirds-apart v =
     let short = lit≤ tt in
     single-bits 48 3 v (spreadByThree (bitAnd 65535 v)) (lt-of-le-of-lt (and-le-l 40210710958665 _) (lit< tt))
     (spread 48 3 1 40210710958665 _ (has v) short (lit< tt) (lit≤ tt) refl (spread 48 6 2 13403570319555 _ (has v) short (lit< tt) (lit≤ tt) refl
-    (spread 48 12 4 1031043870735 _ (has v) short (lit< tt) (lit≤ tt) refl (spread 48 24 8 4278190335 _ (has v) short (lit< tt) (lit≤ tt) refl (one-group 48 16 65535 v refl)))))
+    (spread 48 12 4 1031043870735 _ (has v) short (lit< tt) (lit≤ tt) refl (spread 48 24 8 4278190335 _ (has v) short (lit< tt) (lit≤ tt) refl
+    (one-group 48 16 65535 v refl)))))
 
 pub no-thirds-apart : (v : ℕ) → bitAnd 65535 v ≡ 0 → 0 ≡ word 48 (spaced 3 v)
 no-thirds-apart v e = sym (ap spreadByThree e) ∙ thirds-apart v

@@ -20,7 +20,7 @@ pub record FillsPlanes (w : ℕ) (first second : Threes) (before after : List �
   -- the bytes after them are as they were
   pub keeps : (t : ℕ) → 16 * w ≤ t → getD after t 0 ≡ getD before t 0
 
--- a plane is a word
+-- the planes are words
 pub record AreWords (p : Threes) : Type 0 where
   pub low : p .planes .low < 2 ^ 64
   pub high : p .planes .high < 2 ^ 64
@@ -29,5 +29,5 @@ pub record AreWords (p : Threes) : Type 0 where
 -- no second list of as many bytes is left
 abbrev pub OneFill : Type 0
 OneFill =
-    (w : ℕ) (first second : Threes) (before after after′ : List ℕ) → AreWords first → AreWords second → length after ≡ length before → length after′ ≡ length before
-    → FillsPlanes w first second before after → FillsPlanes w first second before after′ → after ≡ after′
+    (w : ℕ) (first second : Threes) (before after after′ : List ℕ) → AreWords first → AreWords second
+    → length after ≡ length before → length after′ ≡ length before → FillsPlanes w first second before after → FillsPlanes w first second before after′ → after ≡ after′

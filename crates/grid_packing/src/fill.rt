@@ -2,8 +2,9 @@
 use grid_sets::Planes;
 use words::store;
 ghost use mathlib.Core.Path.{_≡_};
-ghost use Prim.Native.Nat.{_≤_, _<_};
+ghost use Prim.Native.Nat.{_≤_};
 ghost use Rattle.bits.specs.Bits.{word};
+ghost use Rattle.rdis.specs.Packing.{width as widthOf};
 ghost use Rattle.grid_packing.specs.Steps.{spaced, Pairs, StoresPlanes};
 
 // The 32 lowest bits at the even places, with 0 between. In a block with few faults most of them are 0.
@@ -28,12 +29,12 @@ fn pairs(low: u64, high: u64) -> u64
     (apart(high) << 1) | apart(low)
 }
 
-// Stores 128 counters, which have these planes, as far as there are bytes. The second 64 come after the first.
-pub fn fill(out: &mut [u8], width: usize, first: Planes, second: Planes)
-    requires { ⌜ (0 < width) × (width ≤ 2) ⌝ }
-    ensures { λ _. ⌜ StoresPlanes width first second (now (out .entry)) (now (out .exit)) ⌝ }
+// Stores 128 counters of one or two bits, which have these planes, as far as there are bytes. The second 64 come after the first.
+pub fn fill(out: &mut [u8], k: usize, first: Planes, second: Planes)
+    requires { ⌜ widthOf k ≤ 2 ⌝ }
+    ensures { λ _. ⌜ StoresPlanes (widthOf k) first second (now (out .entry)) (now (out .exit)) ⌝ }
 {
-    if width == 1 {
+    if grid_sizes::width(k) == 1 {
         store(out, 0, first.low);
         store(out, 8, second.low);
         return;

@@ -48,7 +48,7 @@ pub fn pack(
     }
     let r = tally::tally(rowsets, used, rows);
     let c = tally::tally(columnsets, used, columns);
-    fill::fill(out, width, tally::first(r, c, rows), tally::second(c, rows));
+    fill::fill(out, k, tally::first(r, c, rows), tally::second(c, rows));
 }
 
 // Writes the counters of no level.
@@ -104,10 +104,9 @@ fn pack_threes(
 pub fn fill_planes(out: &mut [u8], k: usize, first: Threes, second: Threes)
     ensures { λ _. ⌜ FillsPlanes (widthOf k) first second (now (out .entry)) (now (out .exit)) ⌝ }
 {
-    let width = grid_sizes::width(k);
-    if width == 3 {
+    if grid_sizes::width(k) == 3 {
         threes::fill_threes(out, first, second);
         return;
     }
-    fill::fill(out, width, first.planes, second.planes);
+    fill::fill(out, k, first.planes, second.planes);
 }

@@ -1,5 +1,5 @@
 -- A word that is stored leaves no second list. Assumes nothing.
-use Prim.Native.Nat.{ℕ, _+_, _-_, _*_}
+use Prim.Native.Nat.{ℕ, _+_, _-_, _*_, _<_}
 use mathlib.Core.Path.{_≡_, sym, ap, _∙_}
 use mathlib.Core.Bool.{Bool, cond}
 use mathlib.Core.List.{List}
@@ -32,7 +32,9 @@ module _ (q v : ℕ) (bs : List ℕ) where
 
 pub one-stored : OneStored
 one-stored q n v before after after′ h l l′ s s′ =
+    let f = bits q v before in
     let start = first-bytes q v before h in
+    let rest : (i : ℕ) → i < 8 * n → has v i ≡ f (8 * q + i) = λ i _. then-word q v before i in
     ext-getD 0 after after′ (l ∙ sym l′) (λ t k. ⊎-elim
-    (λ j. s .fills (bits q v before) start (λ i _. then-word q v before i) t j k ∙ sym (s′ .fills (bits q v before) start (λ i _. then-word q v before i) t j (omega arith)))
+    (λ j. s .fills f start rest t j k ∙ sym (s′ .fills f start rest t j (omega arith)))
     (λ j. s .keeps t j ∙ sym (s′ .keeps t j)) (lt-or-le t (q + n)))

@@ -43,12 +43,13 @@ byte-stored q v bs h = record { fills = fills; keeps = λ t l. other t (λ z. ab
     fills f k e t u w =
         ⊎-elim (λ r. other t (λ z. absurd (omega arith)) ∙ k t r (omega arith))
         (λ r. let here : q ≡ t = omega arith in
-        let byte : v % 2 ^ 8 ≡ word 8 (λ j. f (8 * q + j)) = is-word 8 (v % 2 ^ 8) (λ j. f (8 * q + j)) (mod-lt _ (pow-pos 8)) (λ j l. has-low 8 v j l ∙ e j l) in
+        let byte : v % 2 ^ 8 ≡ word 8 (λ j. f (8 * q + j)) =
+        is-word 8 (v % 2 ^ 8) (λ j. f (8 * q + j)) (mod-lt _ (pow-pos 8)) (λ j l. has-low 8 v j l ∙ e j l) in
         subst (λ y. getD (set bs q (v % 256)) y 0 ≡ word 8 (λ j. f (8 * y + j))) here (getD-set-same bs q (v % 256) 0 h ∙ byte)) (lt-or-le t q)
 
 -- b bytes stored after others, of which they may overlap some: where they do, both store the same
-pub both-stored : (q a s b v : ℕ) (before middle after : List ℕ) → s ≤ a → a ≤ s + b → Stores q a v before middle → Stores (q + s) b (v / 2 ^ (8 * s)) middle after
-    → Stores q (s + b) v before after
+pub both-stored : (q a s b v : ℕ) (before middle after : List ℕ) → s ≤ a → a ≤ s + b → Stores q a v before middle
+    → Stores (q + s) b (v / 2 ^ (8 * s)) middle after → Stores q (s + b) v before after
 both-stored q a s b v before middle after h k one two = record {
   fills = λ f start e.
       let most = one .fills f start (λ i l. e i (omega arith)) in
@@ -59,7 +60,8 @@ both-stored q a s b v before middle after h k one two = record {
 }
 
 -- n bytes, and the n that follow
-pub pair-stored : (n q v : ℕ) (before middle after : List ℕ) → Stores q n v before middle → Stores (q + n) n (v / 2 ^ (8 * n)) middle after → Stores q (n + n) v before after
+pub pair-stored : (n q v : ℕ) (before middle after : List ℕ) → Stores q n v before middle → Stores (q + n) n (v / 2 ^ (8 * n)) middle after
+    → Stores q (n + n) v before after
 pair-stored n q v before middle after = both-stored q n n n v before middle after (omega arith) (omega arith)
 
 -- where all bytes are filled, more cannot be stored

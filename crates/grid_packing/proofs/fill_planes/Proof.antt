@@ -1,7 +1,7 @@
 use borrow.Author.Needs.{needs}
 use native.Mathlib.Omega.{arith}
 use mathlib.Core.Path.{sym, subst, _∙_}
-use Rattle.rdis.proofs.PackingLaws.{width-some, width-few}
+use Rattle.rdis.proofs.PackingLaws.{width-few}
 use Rattle.grid_packing.specs.Promises.{FillsPlanes}
 use Rattle.grid_packing.proofs.FillLaws.{narrow-filled}
 use Rattle.grid_packing.proofs.fill_planes.Statement.{statement}
@@ -19,18 +19,11 @@ fill-planes-spec =
     let t = f .before .before in
     let w = t .before in
     let a = w .before .before .args in
-    subst (λ w. FillsPlanes w (a .first) (a .second) (a .out .now) (f .fill-threes .last .0)) (sym (t .if1 .taken) ∙ w .width .ensures) (f .fill-threes .ensures))
+    subst (λ w. FillsPlanes w (a .first) (a .second) (a .out .now) (f .fill-threes .last .0)) (sym (t .if1 .taken) ∙ w .width .ensures)
+    (f .fill-threes .ensures))
     -- fill-requires
-    (λ c κs.
-    let w = c .before .before in
-    let k = w .before .before .args .k in
-    (omega (arith, w .width .ensures, width-some k), omega (arith, w .width .ensures, width-few k, c .before .if1 .left)))
+    (λ c κs. let w = c .before .before in omega (arith, w .width .ensures, width-few (w .before .before .args .k), c .before .if1 .left))
     -- same-length-2
     (λ c. search needs)
     -- returns-2
-    (λ c.
-    let d = c .before .before in
-    let w = d .before .before .before in
-    let a = w .before .before .args in
-    subst (λ w. FillsPlanes w (a .first) (a .second) (a .out .now) (d .fill .last .0)) (w .width .ensures)
-    (narrow-filled _ (a .first) (a .second) _ _ (d .fill .ensures))))
+    (λ c. narrow-filled _ _ _ _ _ (c .before .before .fill .ensures)))

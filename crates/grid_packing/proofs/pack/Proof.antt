@@ -29,12 +29,9 @@ room e = let a = begin e .args in packs (a .k) (a .rows) (a .columns) (a .used) 
 wide : (t : tie.Then3) → width (begin (t .before .before .before) .args .k) ≡ 3
 wide t = sym (t .before .before .width .ensures) ∙ t .if3 .taken
 
--- or it is 1 or 2
-narrow : (t : tie.Else3) → let w = t .before .before .width .result in (0 < w) × (w ≤ 2)
-narrow t =
-    let w = t .before .before in
-    let k = begin (w .before) .args .k in
-    (omega (arith, w .width .ensures, width-some k), omega (arith, w .width .ensures, width-few k, t .if3 .left))
+-- or it is at most 2
+narrow : (t : tie.Else3) → width (begin (t .before .before .before) .args .k) ≤ 2
+narrow t = omega (arith, t .before .before .width .ensures, width-few (begin (t .before .before .before) .args .k), t .if3 .left)
 
 pub pack-spec : {M : Type 1} → statement M
 pack-spec =
@@ -109,6 +106,6 @@ pack-spec =
           all-packed (a .rows) (a .columns) (times (a .rowsets .now) (a .used)) (times (a .columnsets .now) (a .used)) (r .1 .rows) (r .1 .columns) (width (a .k)) (width-some (a .k))
           (counters-fit (a .k) (a .rows) (a .columns) (a .used) (a .rowsets .now) (a .columnsets .now) (r .0)) (k .before .tally .result) (k .tally2 .result) (d .before .before .first .result)
           (d .before .second .result) (k .before .tally .ensures) (k .tally2 .ensures) (d .before .before .first .ensures) (d .before .second .ensures)
-          (a .out .now) (d .fill .last .0) (long ∙ r .1 .size) (w .width .result) (w .width .ensures) (d .fill .ensures);
+          (a .out .now) (d .fill .last .0) (long ∙ r .1 .size) (d .fill .ensures);
       untouched = λ h. clash (can e) h;
     }))

@@ -30,4 +30,5 @@ pack-one-spec =
     let p = s .pre in
     let long : length (d .fill-ones .last .0) ≡ length (a .out .now) = omega (arith, c .before .out .given) in
     one-packed (a .rows) (a .columns) (a .rowsets .now) (a .columnsets .now) (p .2) (p .3) (a .width) (p .0) (n .low-bits .result) (m .low-bits2 .result) (f .front .result) (b .back .result)
-    (n .low-bits .ensures) (m .low-bits2 .ensures) (f .front .ensures) (b .back .ensures) (a .out .now) (d .fill-ones .last .0) (long ∙ p .4) (d .fill-ones .ensures)))
+    (n .low-bits .ensures) (m .low-bits2 .ensures) (f .front .ensures) (b .back .ensures)
+    (a .out .now) (d .fill-ones .last .0) (long ∙ p .4) (d .fill-ones .ensures)))

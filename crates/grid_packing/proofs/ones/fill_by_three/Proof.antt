@@ -14,4 +14,6 @@ fill-by-three-spec =
     -- store-by-three-requires-2, same-length-2
     (λ c κs. search needs) (λ c. search needs)
     -- returns-2
-    (λ c. let s = c .before .before in all-threes-filled _ _ _ _ (s .before .before .before .before .before .store-by-three .ensures) _ (s .store-by-three2 .ensures)))
+    (λ c.
+    let s = c .before .before in
+    all-threes-filled _ _ _ _ (s .before .before .before .before .before .store-by-three .ensures) _ (s .store-by-three2 .ensures)))

@@ -35,8 +35,9 @@ fill-ones-spec =
     let d3 = d4 .before .before .before .before .before in
     let d2 = d3 .before .before .before .before .before .before in
     let d1 = d2 .before .before .before .before .before in
-    narrow-filled _ _ _ _ _ (pairs-stored _ _ _ (d1 .before .before .before .if2 .taken) _ _ _ _ _ _ _ _ _ (alone _ _ (d1 .before .apart .ensures)) (d1 .store3 .ensures)
-    (alone _ _ (d2 .before .apart2 .ensures)) (d2 .store4 .ensures) (alone _ _ (d3 .before .apart3 .ensures)) (d3 .store5 .ensures) (alone _ _ (d4 .before .apart4 .ensures)) (d4 .store6 .ensures)))
+    narrow-filled _ _ _ _ _ (pairs-stored _ _ _ (d1 .before .before .before .if2 .taken) _ _ _ _ _ _ _ _ _
+    (alone _ _ (d1 .before .apart .ensures)) (d1 .store3 .ensures) (alone _ _ (d2 .before .apart2 .ensures)) (d2 .store4 .ensures)
+    (alone _ _ (d3 .before .apart3 .ensures)) (d3 .store5 .ensures) (alone _ _ (d4 .before .apart4 .ensures)) (d4 .store6 .ensures)))
     -- fill-by-three-requires, same-length-4
     (λ c κs. search needs) (λ c. search needs)
     -- returns-4

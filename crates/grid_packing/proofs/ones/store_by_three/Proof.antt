@@ -17,4 +17,5 @@ store-by-three-spec =
     let d = s .before .before in
     let a = d .before .before .before in
     s .store-parts .ensures _
-    (parts-alone _ _ _ _ _ (a .apart-by-three .ensures) (d .before .before .apart-by-three2 .ensures) (d .before .apart-by-three3 .ensures) (d .apart-by-three4 .ensures))))
+    (parts-alone _ _ _ _ _ (a .apart-by-three .ensures) (d .before .before .apart-by-three2 .ensures)
+    (d .before .apart-by-three3 .ensures) (d .apart-by-three4 .ensures))))
