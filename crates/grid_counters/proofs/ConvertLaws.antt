@@ -1,6 +1,6 @@
 -- What a code proof cites of a conversion: the judgement by planes, and from it to the whole promise. Assumes nothing.
 use Prim.Native.Nat.{ℕ, _+_, _^_, _≤_, _<_}
-use mathlib.Core.Path.{_≡_, refl, sym, ap, subst, _∙_}
+use mathlib.Core.Path.{_≡_, refl, sym, ap, _∙_}
 use mathlib.Core.Bool.{Bool, true, false, not, cond}
 use mathlib.Core.List.{List}
 use mathlib.Core.Logic.{_≢_, ⊎-elim}
@@ -18,12 +18,14 @@ use Rattle.rdis.specs.Packing.{width, unpacked, counter, above, firstAbove, spa
 use Rattle.rdis.proofs.PackingLaws.{counter-past, counter-unpacked, length-unpacked}
 use Rattle.grid_sets.specs.Sets.{setsOf, firstLine}
 use Rattle.grid_sets.proofs.SetLaws.{some-line, first-line}
-use Rattle.grid_counters.specs.declared.threes.Threes.{Threes}
+use Rattle.grid_sets.specs.declared.Threes.{Threes}
 use Rattle.grid_counters.specs.declared.judge.Judged.{Judged}
-use Rattle.grid_counters.specs.Steps.{AreThrees, Judges, FillsPlanes}
+use Rattle.grid_sets.specs.Planes.{AreThrees}
+use Rattle.grid_counters.specs.Steps.{Judges}
+use Rattle.grid_packing.specs.Promises.{FillsPlanes}
 use Rattle.grid_sets.specs.Promises.{roomy, convertible, convertNumber, Convert}
 use Rattle.rdis.proofs.PackingLaws.{width-some}
-use Rattle.grid_counters.proofs.FillLaws.{stored-packed}
+use Rattle.grid_packing.proofs.FillLaws.{stored-packed}
 use Rattle.grid_counters.proofs.JudgeLaws.{none-above, one-above}
 use Rattle.grid_sets.proofs.RoomLaws.{Room, has-room, packs, accepts, none-above-k}
 
@@ -162,14 +164,14 @@ module _ (k k′ m n : ℕ) (bs before : List ℕ) where
         same t = ⊎-elim (counter-unpacked (width k) (m + n) t bs)
             (λ l. past-end numbers t (omega (arith, length-unpacked (width k) (m + n) bs)) ∙ sym (counter-past (width k) (m + n) t bs (judged .0) l)) (lt-or-le t (m + n))
 
-        pub convert-done : (first second : Threes) → AreThrees 64 f first → AreThrees 64 (λ i. f (64 + i)) second → (w : ℕ) → w ≡ width k′ → (after : List ℕ)
-            → length after ≡ length before → FillsPlanes w first second after → Convert k k′ m n bs before (record { number = j .number; index = j .index }) after
-        convert-done first second a b w v after l s = record {
+        pub convert-done : (first second : Threes) → AreThrees 64 f first → AreThrees 64 (λ i. f (64 + i)) second → (after : List ℕ)
+            → length after ≡ length before → FillsPlanes (width k′) first second before after → Convert k k′ m n bs before (record { number = j .number; index = j .index }) after
+        convert-done first second a b after l s = record {
           number = number-is;
           names = names .0;
           namesNone = names .1;
           bytes = λ _.
               stored-packed (width k′) (m + n) numbers f after (width-some k′) (few (judged .0)) (length-unpacked (width k) (m + n) bs) fit same
-              (l ∙ convert-fits .1 .size) (subst (λ x. FillsPlanes x first second after) v s f a b);
+              (l ∙ convert-fits .1 .size) (s .fills f a b);
           untouched = λ h. absurd (omega (arith, z));
         }

@@ -4,18 +4,14 @@ use mathlib.Core.Path.{_≡_, refl, sym, ap, ap₂, _∙_}
 use mathlib.Core.Bool.{Bool, _&&_, _||_, or-false}
 use mathlib.Core.Logic.{_⊎_, inl, inr, ⊎-elim}
 use native.Mathlib.Nat.{lt-of-le-of-lt, div-add-mod, div-eq-of-lt, mod-eq-of-lt, div-lt-iff-lt-mul, mul-assoc, mul-comm, mul-le-mul-right, suc-mul, mul-zero, zero-mul}
-use lib.Arith.{digits-div, digits-mod}
 use native.Mathlib.Omega.{arith}
 use borrow.Author.Tests.{lt-ltb, le-ltb}
 use lib.Bits.{bitAnd, bitOr, and-le-l}
 use lib.Dec.{ltb, lit<, lit≤}
 use Rattle.bits.specs.Bits.{has, word}
 use Rattle.bits.proofs.TestLaws.{lt-or-le}
-use Rattle.bits.proofs.BitLaws.{has-and, has-or, has-shr, has-zero, has-word, is-word}
-
--- the lowest n bits of x stand in groups of g, a group at every d places, with 0 between; and groups put side by side are the bits f
-abbrev pub Grouped : ℕ → ℕ → ℕ → (ℕ → Bool) → ℕ → Type 0
-Grouped n d g f x = (p : ℕ) → p < n → has x p ≡ (ltb (p % d) g && f (p / d * g + p % d))
+use Rattle.bits.proofs.BitLaws.{has-and, has-or, has-shr, has-zero, is-word}
+use Rattle.words.proofs.GroupLaws.{Grouped, mask-bit, part}
 
 -- place p, when groups of g at every d places are laid two and two together, groups of h at every b places, by a move of e places down:
 -- it is in no group; or it is in a lower half, where it was; or in an upper half, to which it is moved
@@ -35,10 +31,6 @@ record Moves (n d g e b h p : ℕ) : Type 0 where
 
 abbrev Places : ℕ → ℕ → ℕ → ℕ → ℕ → ℕ → Type 0
 Places n d g e b h = (p : ℕ) → p < n → (h ≤ p % b) ⊎ (Stays n d g e b h p ⊎ Moves n d g e b h p)
-
--- a bit of the mask of groups of h at every b places
-pub mask-bit : (n b h m : ℕ) → m ≡ word n (λ p. ltb (p % b) h) → (p : ℕ) → p < n → has m p ≡ ltb (p % b) h
-mask-bit n b h m mask p l = ap (λ y. has y p) mask ∙ has-word n (λ p. ltb (p % b) h) p l
 
 module _ (n d g e b h m x : ℕ) (f : ℕ → Bool) (places : Places n d g e b h) (mask : m ≡ word n (λ p. ltb (p % b) h)) where
   fold : Grouped n d g f x → Grouped n b h f (bitAnd m (bitOr x (x / 2 ^ e)))
@@ -63,9 +55,6 @@ module _ (n d g e b h m x : ℕ) (f : ℕ → Bool) (places : Places n d g e b h
           (ap₂ _||_ (k p l ∙ ap (λ t. t && f (p / d * g + p % d)) (le-ltb (p % d) g (s .none)))
           (k (e + p) (s .near) ∙ ap (λ t. t && f ((e + p) / d * g + (e + p) % d)) (lt-ltb ((e + p) % d) g (s .there)))
           ∙ ap f (s .same))
-
-pub part : (d x q r : ℕ) → r < d → x ≡ q * d + r → (x / d ≡ q) × (x % d ≡ r)
-part d x q r h e = rw e (digits-div q h, digits-mod q h)
 
 -- the bits at every d places: groups of 1
 every : (n d m v : ℕ) → m ≡ word n (λ p. ltb (p % d) 1) → Grouped n d 1 (λ i. has v (d * i)) (bitAnd m v)
@@ -133,67 +122,40 @@ gathered n h m x f few less k =
     let first : j / n * h + j % n ≡ j = rw (div-eq-of-lt near, mod-eq-of-lt near, zero-mul h) (omega arith) in
     k j near ∙ rw (mod-eq-of-lt near) (ap (λ t. t && f (j / n * h + j)) (lt-ltb j h l) ∙ ap f (sym (ap (λ z. j / n * h + z) (mod-eq-of-lt near)) ∙ first)))
 
--- ---- every second bit of 64
+-- a step of the code: x and x moved down by e, as far as the mask m lets them through
+abbrev step : ℕ → ℕ → ℕ → ℕ
+step m e x = bitAnd m (bitOr x (x / 2 ^ e))
 
-module _ (v m0 m1 m2 m3 m4 m5 : ℕ) where
-  abbrev a0 : ℕ
-  a0 = bitAnd m0 v
+-- ---- every second bit of 64: groups of 1, 2, 4, 8, 16 and 32 bits
 
-  abbrev a1 : ℕ
-  a1 = bitAnd m1 (bitOr a0 (a0 / 2 ^ 1))
+abbrev sixteens : ℕ → ℕ
+sixteens v = step 281470681808895 8 (step 71777214294589695 4 (step 1085102592571150095 2 (step 3689348814741910323 1 (bitAnd 6148914691236517205 v))))
 
-  abbrev a2 : ℕ
-  a2 = bitAnd m2 (bitOr a1 (a1 / 2 ^ 2))
-
-  abbrev a3 : ℕ
-  a3 = bitAnd m3 (bitOr a2 (a2 / 2 ^ 4))
-
-  abbrev a4 : ℕ
-  a4 = bitAnd m4 (bitOr a3 (a3 / 2 ^ 8))
-
-  folded : m5 < 2 ^ 32 → m0 ≡ word 64 (λ p. ltb (p % 2) 1) → m1 ≡ word 64 (λ p. ltb (p % 4) 2) → m2 ≡ word 64 (λ p. ltb (p % 8) 4) → m3 ≡ word 64 (λ p. ltb (p % 16) 8)
-      → m4 ≡ word 64 (λ p. ltb (p % 32) 16) → m5 ≡ word 64 (λ p. ltb (p % 64) 32) → bitAnd m5 (bitOr a4 (a4 / 2 ^ 16)) ≡ word 32 (λ i. has v (2 * i))
-  folded h e0 e1 e2 e3 e4 e5 =
-      let f : ℕ → Bool = λ i. has v (2 * i) in
-      gathered 64 32 m5 (bitOr a4 (a4 / 2 ^ 16)) f (lit≤ tt) h (fold-two 64 32 16 1 m5 a4 f (lit≤ tt) refl e5 (fold-two 64 16 8 2 m4 a3 f (lit≤ tt) refl e4
-      (fold-two 64 8 4 4 m3 a2 f (lit≤ tt) refl e3 (fold-two 64 4 2 8 m2 a1 f (lit≤ tt) refl e2 (fold-two 64 2 1 16 m1 a0 f (lit≤ tt) refl e1 (every 64 2 m0 v e0))))))
-
--- the masks of the code: groups of 1, 2, 4, 8, 16 and 32 bits
-abbrev fourth : ℕ → ℕ
-fourth v = a4 v 6148914691236517205 3689348814741910323 1085102592571150095 71777214294589695 281470681808895 4294967295
-
-pub seconds-are : (v : ℕ) → bitAnd 4294967295 (bitOr (fourth v) (fourth v / 2 ^ 16)) ≡ word 32 (λ i. has v (2 * i))
+pub seconds-are : (v : ℕ) → step 4294967295 16 (sixteens v) ≡ word 32 (λ i. has v (2 * i))
 unfolding word
-seconds-are v = folded v 6148914691236517205 3689348814741910323 1085102592571150095 71777214294589695 281470681808895 4294967295 (lit< tt) refl refl refl refl refl refl
+seconds-are v =
+    let f : ℕ → Bool = λ i. has v (2 * i) in
+    gathered 64 32 4294967295 _ f (lit≤ tt) (lit< tt)
+    (fold-two 64 32 16 1 4294967295 _ f (lit≤ tt) refl refl (fold-two 64 16 8 2 281470681808895 _ f (lit≤ tt) refl refl
+    (fold-two 64 8 4 4 71777214294589695 _ f (lit≤ tt) refl refl (fold-two 64 4 2 8 1085102592571150095 _ f (lit≤ tt) refl refl
+    (fold-two 64 2 1 16 3689348814741910323 _ f (lit≤ tt) refl refl (every 64 2 6148914691236517205 v refl))))))
 
 pub no-seconds : 0 ≡ word 32 (λ i. has 0 (2 * i))
 no-seconds = is-word 32 0 (λ i. has 0 (2 * i)) (lit< tt) (λ j _. has-zero j ∙ sym (has-zero (2 * j)))
 
--- ---- every third bit of 48
+-- ---- every third bit of 48: groups of 1, 2, 4, 8 and 16 bits
 
-module _ (a0 m1 m2 m3 m4 : ℕ) where
-  abbrev b1 : ℕ
-  b1 = bitAnd m1 (bitOr a0 (a0 / 2 ^ 2))
-
-  abbrev b2 : ℕ
-  b2 = bitAnd m2 (bitOr b1 (b1 / 2 ^ 4))
-
-  abbrev b3 : ℕ
-  b3 = bitAnd m3 (bitOr b2 (b2 / 2 ^ 8))
-
-  folded-thirds : m4 < 2 ^ 16 → (f : ℕ → Bool) → m1 ≡ word 48 (λ p. ltb (p % 6) 2) → m2 ≡ word 48 (λ p. ltb (p % 12) 4) → m3 ≡ word 48 (λ p. ltb (p % 24) 8)
-      → m4 ≡ word 48 (λ p. ltb (p % 48) 16) → Grouped 48 3 1 f a0 → bitAnd m4 (bitOr b3 (b3 / 2 ^ 16)) ≡ word 16 f
-  folded-thirds h f e1 e2 e3 e4 k =
-      gathered 48 16 m4 (bitOr b3 (b3 / 2 ^ 16)) f (lit≤ tt) h (fold-two 48 24 8 1 m4 b3 f (lit≤ tt) refl e4 (fold-two 48 12 4 2 m3 b2 f (lit≤ tt) refl e3
-      (fold-two 48 6 2 4 m2 b1 f (lit≤ tt) refl e2 (fold-two 48 3 1 8 m1 a0 f (lit≤ tt) refl e1 k))))
-
--- the masks of the code: groups of 1, 2, 4, 8 and 16 bits
+-- from the bits that the first mask lets through
 abbrev third : ℕ → ℕ
-third a = b3 a 13403570319555 1031043870735 4278190335 65535
+third a = step 65535 16 (step 4278190335 8 (step 1031043870735 4 (step 13403570319555 2 a)))
 
-pub thirds-are : (v : ℕ) → bitAnd 65535 (bitOr (third (bitAnd 40210710958665 v)) (third (bitAnd 40210710958665 v) / 2 ^ 16)) ≡ word 16 (λ i. has v (3 * i))
+pub thirds-are : (v : ℕ) → third (bitAnd 40210710958665 v) ≡ word 16 (λ i. has v (3 * i))
 unfolding word
-thirds-are v = folded-thirds (bitAnd 40210710958665 v) 13403570319555 1031043870735 4278190335 65535 (lit< tt) (λ i. has v (3 * i)) refl refl refl refl (every 48 3 40210710958665 v refl)
+thirds-are v =
+    let f : ℕ → Bool = λ i. has v (3 * i) in
+    gathered 48 16 65535 _ f (lit≤ tt) (lit< tt)
+    (fold-two 48 24 8 1 65535 _ f (lit≤ tt) refl refl (fold-two 48 12 4 2 4278190335 _ f (lit≤ tt) refl refl
+    (fold-two 48 6 2 4 1031043870735 _ f (lit≤ tt) refl refl (fold-two 48 3 1 8 13403570319555 _ f (lit≤ tt) refl refl (every 48 3 40210710958665 v refl)))))
 
 pub no-thirds : (v : ℕ) → bitAnd 40210710958665 v ≡ 0 → 0 ≡ word 16 (λ i. has v (3 * i))
-no-thirds v e = sym (ap (λ a. bitAnd 65535 (bitOr (third a) (third a / 2 ^ 16))) e) ∙ thirds-are v
+no-thirds v e = sym (ap third e) ∙ thirds-are v

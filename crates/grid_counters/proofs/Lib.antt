@@ -1,14 +1,7 @@
-pub mod ShiftLaws
 pub mod GatherLaws
-pub mod SpreadLaws
-pub mod SpacedLaws
-pub mod PackLaws
-pub mod PlaneLaws
-pub mod TallyLaws
+pub mod WindowLaws
+pub mod ReadingLaws
 pub mod ThreeLaws
-pub mod FillLaws
-pub mod ThreeFillLaws
-pub mod OneLaws
 pub mod JudgeLaws
 pub mod PromiseLaws
 pub mod ConvertLaws

@@ -1,27 +1,25 @@
--- Laws of counters of three bits: their planes from bytes, the sets of their lines, and their planes from sets. Assumes nothing.
+-- Laws of counters of three bits: their planes from bytes, and the sets of their lines. Assumes nothing.
 use Prim.Native.Nat.{ℕ, zero, suc, _+_, _-_, _*_, _/_, _%_, _^_, _≤_, _<_}
 use mathlib.Core.Path.{_≡_, refl, sym, ap, ap₂, _∙_}
-use mathlib.Core.Bool.{Bool, false, xor, _&&_, _||_}
+use mathlib.Core.Bool.{Bool, false, _&&_, _||_}
 use mathlib.Core.List.{List, [], _∷_}
 use mathlib.Core.Logic.{⊎-elim}
 use native.Mathlib.Nat.{zero-div}
-use native.Mathlib.Numerals.{add-one}
 use native.Mathlib.Omega.{arith}
-use lib.Bits.{bitAnd, bitOr, bitXor, or-lt, and-lt, xor-lt, or-add-and, and-le-l, and-le-r}
+use lib.Bits.{bitAnd, bitOr, or-lt, and-lt, or-add-and, and-le-l, and-le-r}
 use lib.Dec.{ltb, lit<, lit≤}
 use lib.ListN.{getD}
 use lib.Pow.{pow-pos}
-use Rattle.bits.specs.Bits.{num, list, sum, number, has, word, words}
+use Rattle.bits.specs.Bits.{list, number, has, word, words}
 use Rattle.bits.proofs.TestLaws.{lt-or-le}
-use Rattle.bits.proofs.BitLaws.{has-and, has-or, has-xor, has-zero, has-low, has-shr, has-word, is-word, word-lt, word-ext}
+use Rattle.bits.proofs.BitLaws.{has-and, has-or, has-zero, has-low, has-shr, has-word, is-word, word-lt, word-ext}
 use Rattle.rdis.specs.Packing.{counter}
-use Rattle.grid_sets.specs.Sets.{setsOf, times}
-use Rattle.grid_counters.specs.declared.planes.Planes.{Planes}
-use Rattle.grid_counters.specs.declared.threes.Threes.{Threes}
-use Rattle.grid_counters.specs.Steps.{AreBits, AreThrees, FromThirds, FromFour}
-use Rattle.grid_counters.proofs.ShiftLaws.{joined, joined-short}
-use Rattle.grid_counters.proofs.PlaneLaws.{Bits, from-byte, at-place, bits-as, plane-as}
-use Rattle.grid_counters.proofs.TallyLaws.{added-high, added-next, plane-bit, few-plane}
+use Rattle.grid_sets.specs.Sets.{setsOf}
+use Rattle.grid_sets.specs.declared.Planes.{Planes}
+use Rattle.grid_sets.specs.Planes.{AreBits, AreThrees}
+use Rattle.grid_counters.specs.Steps.{FromThirds, FromFour}
+use Rattle.words.proofs.ShiftLaws.{joined, joined-short}
+use Rattle.grid_counters.proofs.ReadingLaws.{Bits, from-byte, at-place}
 
 -- ---- from bytes
 
@@ -171,38 +169,3 @@ module _ (n : ℕ) (f : ℕ → ℕ) (few : (t : ℕ) → f t < 8) where
       (bitAnd (getD (e t) 0 0) (g t) ∷ (bitAnd (getD (e t) 1 0) (g t) ∷ (bitAnd (getD (e t) 2 0) (g t) ∷ (0 ∷ []))))))))
       ∙ (λ t. with-top 0 0 (λ i. at-line i .s0) t ∷ (with-top 1 1 (λ i. at-line i .s1) t ∷ (with-top 2 2 (λ i. at-line i .s2) t ∷ (e3 t ∷
       (in-top 0 4 (λ i. at-line i .s4) t ∷ (in-top 1 5 (λ i. at-line i .s5) t ∷ (in-top 2 6 (λ i. at-line i .s6) t ∷ (e7 t ∷ []))))))))
-
--- ---- from sets
-
-added-top : (x : ℕ) (b : Bool) → has (num b + x) 2 ≡ xor (has x 2) (has x 1 && (has x 0 && b))
-added-top x b = added-next x b 1 ∙ added-high (x / 2) (has x 0 && b) ∙ ap₂ (λ t u. xor t (u && (has x 0 && b))) (has-shr x 1 1) (has-shr x 1 0)
-
--- one set more
-pub one-more-third : (f : ℕ → ℕ) (p : Threes) (s : ℕ) → s < 2 ^ 64 → AreThrees 64 f p
-    → bitXor (p .top) (bitAnd (p .planes .high) (bitAnd (p .planes .low) s)) ≡ word 64 (λ i. has (num (has s i) + f i) 2)
-one-more-third f p s h b =
-    let low = p .planes .low in
-    let high = p .planes .high in
-    let few = and-lt 64 low s (few-plane 0 low f (b .bits .lower)) h in
-    is-word 64 (bitXor (p .top) (bitAnd high (bitAnd low s))) _
-    (xor-lt 64 (p .top) (bitAnd high (bitAnd low s)) (few-plane 2 (p .top) f (b .third)) (and-lt 64 high (bitAnd low s) (few-plane 1 high f (b .bits .higher)) few))
-    (λ i l. has-xor (p .top) (bitAnd high (bitAnd low s)) i
-    ∙ ap₂ xor (plane-bit 2 (p .top) f (b .third) i l)
-    (has-and high (bitAnd low s) i ∙ ap₂ _&&_ (plane-bit 1 high f (b .bits .higher) i l) (has-and low s i ∙ ap (λ t. t && has s i) (plane-bit 0 low f (b .bits .lower) i l)))
-    ∙ sym (added-top (f i) (has s i)))
-
--- all of them
-pub threes-none : (sets : List ℕ) → AreBits 64 (times sets 0) (record { low = 0; high = 0 }) → AreThrees 64 (times sets 0) (record { planes = record { low = 0; high = 0 }; top = 0 })
-unfolding times sum
-threes-none sets b = record { bits = b; third = is-word 64 0 (λ _. has 0 2) (pow-pos 64) (λ i _. has-zero i ∙ sym (has-zero 2)) }
-
-pub threes-step : (sets : List ℕ) (m : ℕ) (p : Threes) → AreThrees 64 (λ i. num (has (getD sets m 0) i) + times sets m i) p → AreThrees 64 (times sets (m + 1)) p
-unfolding times sum
-threes-step sets m p b = rw add-one b
-
--- the planes of n counters are those of more, of which the others are 0
-pub threes-as : (n m : ℕ) (f g : ℕ → ℕ) (p : Threes) → n ≤ m → ((i : ℕ) → i < n → g i ≡ f i) → ((i : ℕ) → n ≤ i → i < m → g i ≡ 0) → AreThrees n f p → AreThrees m g p
-threes-as n m f g p l e z b = record { bits = bits-as n m f g (p .planes) l e z (b .bits); third = b .third ∙ plane-as n m f g 2 l e z }
-
-pub threes-ext : (n : ℕ) (f g : ℕ → ℕ) (p : Threes) → ((i : ℕ) → i < n → g i ≡ f i) → AreThrees n f p → AreThrees n g p
-threes-ext n f g p e = threes-as n n f g p (omega arith) e (λ i h l. absurd (omega arith))

@@ -1,17 +1,13 @@
 // Counters from one K to another: planes of 64 of them, rows and columns alike, from bytes and to bytes of any width. No sets of lines are made.
-use crate::fill::fill;
 use crate::judge::Judged;
 use crate::judge::spare_clear;
-use crate::packable;
 use crate::planes::planes_from;
 use crate::planes::thresholds;
-use crate::roomy;
-use crate::threes::Threes;
-use crate::threes::fill_threes;
 use crate::threes::raised;
 use crate::threes::threes_from;
 use grid_sets::Converted;
 use grid_sets::LEVELS;
+use grid_sets::Threes;
 use refusals::ACCEPTED;
 use refusals::BIT_PAST_END;
 use refusals::MALFORMED;
@@ -23,7 +19,8 @@ ghost use lib.ListN.{getD};
 ghost use Rattle.bits.specs.Bits.{some, first as firstOf};
 ghost use Rattle.rdis.specs.Packing.{counter};
 ghost use Rattle.grid_sets.specs.Sets.{setsOf};
-ghost use Rattle.grid_counters.specs.Steps.{AreThrees, Judges, FillsPlanes};
+ghost use Rattle.grid_sets.specs.Planes.{AreThrees};
+ghost use Rattle.grid_counters.specs.Steps.{Judges};
 ghost use Rattle.grid_sets.specs.Promises.{Convert};
 
 // The planes of the 64 counters from counter `first` on, with 0 past the end.
@@ -38,18 +35,6 @@ fn planes_at(bytes: &[u8], width: usize, first: usize) -> Threes
         planes: planes_from(bytes, width, first),
         top: 0,
     }
-}
-
-// Stores 128 counters, which have these planes, as far as there are bytes.
-fn fill_at(out: &mut [u8], width: usize, a: Threes, b: Threes)
-    requires { ⌜ (0 < width) × (width ≤ 3) ⌝ }
-    ensures { λ _. ⌜ FillsPlanes width a b (now (out .exit)) ⌝ }
-{
-    if width == 3 {
-        fill_threes(out, a, b);
-        return;
-    }
-    fill(out, width, a.planes, b.planes);
 }
 
 // Which of 64 counters are above K.
@@ -103,7 +88,8 @@ pub fn convert(
 ) -> Converted
     ensures { λ r. ⌜ Convert k to rows columns (now (bytes .entry)) (now (out .entry)) r (now (out .exit)) ⌝ }
 {
-    if !(roomy(k, rows, columns, bytes.len()) & packable(to, rows, columns, k, out.len())) {
+    if !(grid_sizes::roomy(k, rows, columns, bytes.len())
+        & grid_packing::packable(to, rows, columns, k, out.len())) {
         return Converted {
             number: WRONG_LENGTH,
             index: 0,
@@ -115,7 +101,7 @@ pub fn convert(
     let clear = spare_clear(bytes, width, rows + columns);
     let j = judge_planes(clear, above(first, k), above(second, k));
     if j.number == ACCEPTED {
-        fill_at(out, grid_sizes::width(to), first, second);
+        grid_packing::fill_planes(out, to, first, second);
     }
     Converted {
         number: j.number,

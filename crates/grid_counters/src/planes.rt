@@ -1,5 +1,6 @@
 // The counters that bytes hold, as sets of lines. Bit q of every counter makes a word, a plane; the sets are made of the planes, 64 lines at once.
 use grid_sets::LEVELS;
+use grid_sets::Planes;
 ghost use mathlib.Core.Path.{_≡_};
 ghost use mathlib.Core.Bool.{Bool};
 ghost use Prim.Native.Nat.{ℕ, _+_, _*_, _/_, _%_, _^_, _≤_, _<_};
@@ -7,13 +8,7 @@ ghost use lib.Dec.{ltb};
 ghost use Rattle.bits.specs.Bits.{num, has, word, words, number};
 ghost use Rattle.rdis.specs.Packing.{counter};
 ghost use Rattle.grid_sets.specs.Sets.{setsOf};
-ghost use Rattle.grid_counters.specs.Steps.{AreBits};
-
-// Bit 0 and bit 1 of 64 counters.
-pub struct Planes {
-    pub low: u64,
-    pub high: u64,
-}
+ghost use Rattle.grid_sets.specs.Planes.{AreBits};
 
 // The 64 bits from byte `q` on, with 0 past the end.
 pub fn load(bytes: &[u8], q: usize) -> u64

@@ -14,7 +14,7 @@ use Rattle.rdis.proofs.PackingLaws.{width-holds}
 use Rattle.grid_sets.specs.Sets.{times}
 use Rattle.grid_sets.specs.Promises.{packable, Pack}
 use Rattle.grid_sets.proofs.RoomLaws.{can-pack}
-use Rattle.grid_counters.proofs.PromiseLaws.{cleared}
+use Rattle.grid_packing.proofs.ClearLaws.{cleared}
 use Rattle.grid_promises.specs.Calls.{inRange, block, planSized, planPast, planNumber}
 use Rattle.grid_promises.specs.Refusals.{PlanLengths}
 use Rattle.grid_promises.specs.Promises.{Plan}

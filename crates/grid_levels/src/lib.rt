@@ -109,7 +109,7 @@ fn plan_sized(
     }
     let f = levels::first_level(data, mask, values);
     if f.rows == 0 {
-        grid_counters::clear(counters);
+        grid_packing::clear(counters);
         return accepted(0, f.faults, f.wrong);
     }
     let mut rowsets = [0u64; LEVELS];
@@ -129,7 +129,7 @@ fn plan_sized(
     if used > k {
         return refused(UNMASKABLE, 0);
     }
-    grid_counters::pack(
+    grid_packing::pack(
         k,
         data.len(),
         columns,

@@ -1,3 +1,4 @@
 pub mod Sets
+pub mod Planes
 pub mod Promises
 pub mod Claims

@@ -1,4 +1,4 @@
-// Counters as sets of lines: definitions (specs/) and laws (proofs/), and how many sets and lines there is room for. No code.
+// Counters as sets of lines and as planes: definitions (specs/) and laws (proofs/), and how many sets and lines there is room for. No code.
 
 // A block has at most so many rows, and so many columns.
 pub const LINES: usize = 64;
@@ -18,4 +18,16 @@ pub struct Counters {
 pub struct Converted {
     pub number: usize,
     pub index: usize,
+}
+
+// Bit 0 and bit 1 of 64 counters: bit i of a word is that of counter i.
+pub struct Planes {
+    pub low: u64,
+    pub high: u64,
+}
+
+// The same with bit 2. Apart from the others: most counters have at most two bits, and two words are passed in registers.
+pub struct Threes {
+    pub planes: Planes,
+    pub top: u64,
 }

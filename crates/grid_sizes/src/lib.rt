@@ -5,7 +5,7 @@ ghost use mathlib.Core.Path.{_≡_};
 ghost use mathlib.Core.Bool.{cond};
 ghost use lib.Dec.{leb};
 ghost use Rattle.rdis.specs.Packing.{width as widthOf, bytesFor};
-ghost use Rattle.grid_sets.specs.Promises.{fit};
+ghost use Rattle.grid_sets.specs.Promises.{fit, roomy as isRoomy};
 ghost use Rattle.grid_promises.specs.Calls.{between, inRange};
 
 // The largest K.
@@ -52,4 +52,14 @@ pub fn fits(k: usize, count: usize, bytes: usize) -> bool
     ensures { λ r. ⌜ r ≡ fit k count bytes ⌝ }
 {
     (count <= MOST_COUNTERS) & (bytes == bytes_of(k, count))
+}
+
+// Whether the counters of these lines take just this number of bytes. Sizes first: `rows + columns` of any might overflow.
+pub fn roomy(k: usize, rows: usize, columns: usize, bytes: usize) -> bool
+    ensures { λ r. ⌜ r ≡ isRoomy k rows columns bytes ⌝ }
+{
+    if !((rows <= LINES) & (columns <= LINES)) {
+        return false;
+    }
+    fits(k, rows + columns, bytes)
 }

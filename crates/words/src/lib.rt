@@ -1,4 +1,7 @@
 // Small functions on words, and on bytes that make words. Each public one answers for every argument.
+mod stores;
+
+pub use stores::store;
 ghost use mathlib.Core.Path.{_≡_};
 ghost use mathlib.Core.Bool.{true, cond};
 ghost use Prim.Native.Nat.{_+_, _*_, _^_, _≤_, _<_, min};

@@ -9,7 +9,7 @@ use Rattle.rdis.specs.Packing.{width, counter}
 use Rattle.grid_sets.proofs.SetLaws.{sets-ext}
 use Rattle.grid_sets.specs.Promises.{roomy}
 use Rattle.rdis.proofs.PackingLaws.{width-some, width-few}
-use Rattle.grid_counters.proofs.PlaneLaws.{bits-ext}
+use Rattle.grid_sets.proofs.PlaneLaws.{bits-ext}
 use Rattle.grid_sets.proofs.RoomLaws.{Room, has-room}
 use Rattle.grid_counters.proofs.PromiseLaws.{not-roomy, counter-narrow, judged}
 use Rattle.grid_counters.proofs.unpack.Statement.{statement}

@@ -5,8 +5,8 @@ use Prim.Native.Nat.{_+_}
 use lib.ListN.{length}
 use Rattle.rdis.specs.Packing.{width, counter, spareClear, bytesFor}
 use Rattle.grid_sets.proofs.SetLaws.{sets-ext}
-use Rattle.grid_counters.specs.Steps.{AreThrees}
-use Rattle.grid_counters.proofs.ThreeLaws.{threes-ext}
+use Rattle.grid_sets.specs.Planes.{AreThrees}
+use Rattle.grid_sets.proofs.PlaneLaws.{threes-ext}
 use Rattle.grid_sets.proofs.RoomLaws.{Room, has-room}
 use Rattle.grid_counters.proofs.PromiseLaws.{counter-few, judged}
 use Rattle.grid_counters.proofs.unpack_threes.Statement.{statement}

@@ -5,7 +5,7 @@ use mathlib.Core.Path.{sym, ap}
 use Prim.Native.Nat.{_%_}
 use lib.Dec.{lit<}
 use lib.ListN.{getD}
-use Rattle.grid_counters.proofs.PlaneLaws.{sets-by-planes}
+use Rattle.grid_counters.proofs.ReadingLaws.{sets-by-planes}
 use Rattle.grid_counters.proofs.ThreeLaws.{low-bits}
 use Rattle.grid_counters.proofs.ConvertLaws.{no-set}
 use Rattle.grid_counters.proofs.conversion.above.Statement.{statement}

@@ -8,10 +8,11 @@ use lib.Dec.{ltb}
 use lib.ListN.{length}
 use Rattle.bits.specs.Bits.{some, first}
 use Rattle.rdis.specs.Packing.{width, counter, spareClear}
-use Rattle.grid_counters.specs.Steps.{AreThrees, Judges}
+use Rattle.grid_sets.specs.Planes.{AreThrees}
+use Rattle.grid_counters.specs.Steps.{Judges}
 use Rattle.grid_sets.specs.Promises.{convertible}
 use Rattle.rdis.proofs.PackingLaws.{width-some, width-few}
-use Rattle.grid_counters.proofs.ThreeLaws.{threes-ext}
+use Rattle.grid_sets.proofs.PlaneLaws.{threes-ext}
 use Rattle.grid_sets.proofs.RoomLaws.{Room}
 use Rattle.grid_counters.proofs.PromiseLaws.{counter-few}
 use Rattle.grid_counters.proofs.ConvertLaws.{not-convertible, convert-room, convert-refused, convert-done}
@@ -78,20 +79,18 @@ convert-spec =
     let w = c .before .before in
     let r = room (w .before) in
     (omega (arith, narrow w .1), omega (arith, r .rows, r .columns), rw (w .width .ensures) (r .size)))
-    -- above-requires, above-requires-2, judge-planes-requires, width-requires-2
+    -- above-requires, above-requires-2, judge-planes-requires, fill-planes-requires
     (λ c κs. search needs) (λ c κs. search needs) (λ c κs. search needs) (λ c κs. search needs)
-    -- fill-at-requires
-    (λ c κs. (rw (c .width2 .ensures) (width-some _), rw (c .width2 .ensures) (width-few _)))
     -- same-length
     (λ c. search needs)
     -- returns-2
     (λ c.
     let f = c .before .before in
-    let j = f .before .before .before .before .before in
+    let j = f .before .before .before .before in
     let e = j .before .before .before .before .before .before .before in
     let a = begin (e .before) .args in
-    convert-done (a .k) (a .to) (a .rows) (a .columns) (a .bytes .now) (a .out .now) (can e) _ (clear-is j) (j .judge-planes .result) (verdict j) (f .before .before .before .if2 .taken)
-    _ _ (first-planes (j .before .before .before .before .before)) (second-planes (j .before .before .before .before)) (f .before .width2 .result) (f .before .width2 .ensures) (f .fill-at .last .0) (omega (arith, c .before .out .given)) (f .fill-at .ensures))
+    convert-done (a .k) (a .to) (a .rows) (a .columns) (a .bytes .now) (a .out .now) (can e) _ (clear-is j) (j .judge-planes .result) (verdict j) (f .before .before .if2 .taken)
+    _ _ (first-planes (j .before .before .before .before .before)) (second-planes (j .before .before .before .before)) (f .fill-planes .last .0) (omega (arith, c .before .out .given)) (f .fill-planes .ensures))
     -- returns-3
     (λ c.
     let j = c .before .before in

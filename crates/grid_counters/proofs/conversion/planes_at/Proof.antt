@@ -3,8 +3,8 @@ use native.Mathlib.Omega.{arith}
 use mathlib.Core.Path.{sym, subst}
 use Prim.Native.Nat.{_+_}
 use Rattle.rdis.specs.Packing.{counter}
-use Rattle.grid_counters.specs.Steps.{AreThrees}
-use Rattle.grid_counters.proofs.PlaneLaws.{no-plane}
+use Rattle.grid_sets.specs.Planes.{AreThrees}
+use Rattle.grid_counters.proofs.ReadingLaws.{no-plane}
 use Rattle.grid_counters.proofs.conversion.planes_at.Statement.{statement}
 use Rattle.grid_counters.proofs.conversion.planes_at.Tie as tie
 

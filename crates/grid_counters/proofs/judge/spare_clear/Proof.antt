@@ -1,7 +1,7 @@
 use borrow.Author.Needs.{needs}
 use native.Mathlib.Omega.{arith}
 use denote.Ref.{now}
-use Rattle.grid_counters.proofs.PackLaws.{small, spare-read}
+use Rattle.grid_counters.proofs.WindowLaws.{small, spare-read}
 use Rattle.grid_counters.proofs.judge.spare_clear.Statement.{statement}
 use Rattle.grid_counters.proofs.judge.spare_clear.Tie as tie
 

@@ -1,6 +1,6 @@
 use borrow.Author.Needs.{needs}
 use native.Mathlib.Omega.{arith}
-use Rattle.grid_counters.proofs.PlaneLaws.{cut-second, cut-both}
+use Rattle.grid_counters.proofs.ReadingLaws.{cut-second, cut-both}
 use Rattle.grid_counters.proofs.planes.cut.Statement.{statement}
 use Rattle.grid_counters.proofs.planes.cut.Tie as tie
 

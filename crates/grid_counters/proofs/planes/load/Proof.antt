@@ -1,6 +1,6 @@
 use borrow.Author.Needs.{needs}
 use mathlib.Core.Path.{_∙_}
-use Rattle.grid_counters.proofs.PlaneLaws.{loaded}
+use Rattle.grid_counters.proofs.ReadingLaws.{loaded}
 use Rattle.grid_counters.proofs.planes.load.Statement.{statement}
 use Rattle.grid_counters.proofs.planes.load.Tie as tie
 

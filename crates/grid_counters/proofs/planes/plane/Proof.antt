@@ -1,5 +1,5 @@
 use borrow.Author.Needs.{needs}
-use Rattle.grid_counters.proofs.PlaneLaws.{side-by-side}
+use Rattle.grid_counters.proofs.ReadingLaws.{side-by-side}
 use Rattle.grid_counters.proofs.planes.plane.Statement.{statement}
 use Rattle.grid_counters.proofs.planes.plane.Tie as tie
 

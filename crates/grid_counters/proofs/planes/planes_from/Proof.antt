@@ -3,8 +3,8 @@ use native.Mathlib.Omega.{arith}
 use mathlib.Core.Path.{_≡_, sym, subst}
 use Prim.Native.Nat.{_+_}
 use Rattle.rdis.specs.Packing.{counter}
-use Rattle.grid_counters.specs.Steps.{AreBits}
-use Rattle.grid_counters.proofs.PlaneLaws.{single-planes, double-planes}
+use Rattle.grid_sets.specs.Planes.{AreBits}
+use Rattle.grid_counters.proofs.ReadingLaws.{single-planes, double-planes}
 use Rattle.grid_counters.proofs.planes.planes_from.Statement.{statement}
 use Rattle.grid_counters.proofs.planes.planes_from.Tie as tie
 

@@ -1,7 +1,7 @@
 use borrow.Author.Needs.{needs}
 use Prim.Native.Nat.{_+_}
 use Rattle.bits.specs.Bits.{has}
-use Rattle.grid_counters.proofs.PlaneLaws.{sets-by-planes}
+use Rattle.grid_counters.proofs.ReadingLaws.{sets-by-planes}
 use Rattle.grid_counters.proofs.planes.sets.Statement.{statement}
 use Rattle.grid_counters.proofs.planes.sets.Tie as tie
 

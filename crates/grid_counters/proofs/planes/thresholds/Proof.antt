@@ -1,4 +1,4 @@
-use Rattle.grid_counters.proofs.PlaneLaws.{thresholds-are}
+use Rattle.grid_counters.proofs.ReadingLaws.{thresholds-are}
 use Rattle.grid_counters.proofs.planes.thresholds.Statement.{statement}
 use Rattle.grid_counters.proofs.planes.thresholds.Tie as tie
 
