@@ -16,36 +16,42 @@ static size_t whole(const ernavluq_transfer *t)
     return ERNAVLUQ_BLOCK_BYTES(t->rows, t->columns, t->k);
 }
 
+/* Says what is missing, as the last start or lump answered this number, and changes nothing. */
+static int misses(const struct reader *r, size_t number)
+{
+    struct reader before = *r;
+    ernavluq_transfer_missing_answer a = ernavluq_transfer_missing(&r->record);
+    size_t bytes = number == ERNAVLUQ_ACCEPTED ? whole(&r->record) - r->record.taken : 0;
+    return a.number == number && a.bytes == bytes && memcmp(r, &before, sizeof before) == 0;
+}
+
 int starts(struct reader *r, size_t rows, size_t columns, size_t k, size_t number)
 {
-    ernavluq_transfer_step step = ernavluq_transfer_start(rows, columns, k);
-    ernavluq_transfer want;
-    memset(&want, 0, sizeof want);
-    want.rows = rows;
-    want.columns = columns;
-    want.k = k;
-    r->record = step.transfer;
-    return step.number == number && memcmp(&r->record, &want, sizeof want) == 0;
+    struct reader want = *r;
+    memset(&want.record, 0, sizeof want.record);
+    want.record.rows = rows;
+    want.record.columns = columns;
+    want.record.k = k;
+    return ernavluq_transfer_start(&r->record, rows, columns, k) == number && memcmp(r, &want, sizeof want) == 0 && misses(r, number);
 }
 
 int takes(struct reader *r, const uint8_t *bytes, size_t length, size_t number)
 {
-    ernavluq_transfer want = r->record;
-    ernavluq_transfer_step step = ernavluq_transfer_lump(r->record, bytes, length);
-    r->record = step.transfer;
+    struct reader want = *r;
+    ernavluq_transfer *record = &want.record;
     if (number == ERNAVLUQ_ACCEPTED && length > 0)
-        memcpy(want.bytes + want.taken, bytes, length);
+        memcpy(record->bytes + record->taken, bytes, length);
     if (number == ERNAVLUQ_ACCEPTED)
-        want.taken += length;
-    else if (number == ERNAVLUQ_LONG_BLOCK && want.taken <= whole(&want))
-        want.taken = ERNAVLUQ_MAX_BLOCK_BYTES + 1;
-    return step.number == number && memcmp(&r->record, &want, sizeof want) == 0;
+        record->taken += length;
+    else if (number == ERNAVLUQ_LONG_BLOCK && record->taken <= whole(record))
+        record->taken = ERNAVLUQ_MAX_BLOCK_BYTES + 1;
+    return ernavluq_transfer_lump(&r->record, bytes, length) == number && memcmp(r, &want, sizeof want) == 0 && misses(r, number);
 }
 
 int finishes(struct reader *r, size_t length, size_t number, size_t index, const uint64_t *shown)
 {
     struct reader want = *r;
-    ernavluq_grid_read_answer a = ernavluq_transfer_finish(r->record, r->out, length);
+    ernavluq_grid_read_answer a = ernavluq_transfer_finish(&r->record, r->out, length);
     if (number == ERNAVLUQ_ACCEPTED)
         memcpy(want.out, shown, length * sizeof *shown);
     return a.number == number && a.index == index && memcmp(r, &want, sizeof want) == 0;
@@ -62,7 +68,7 @@ int stays(struct reader *r, size_t number)
     int good = takes(r, NULL, 0, number) && takes(r, zeros, 0, number) && takes(r, zeros, 1, number) && takes(r, zeros, sizeof zeros, number);
     for (size_t length = 0; length < ROOM; length++)
         good = good && refuses(r, length, number);
-    return good && ernavluq_transfer_finish(r->record, NULL, 0).number == number && takes(r, NULL, 0, number);
+    return good && ernavluq_transfer_finish(&r->record, NULL, 0).number == number && takes(r, NULL, 0, number);
 }
 
 struct sent send_block(size_t rows, size_t columns, size_t k, struct block *b)

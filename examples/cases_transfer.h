@@ -12,7 +12,7 @@ struct reader {
 
 struct reader new_reader(void);
 
-/* A start answers this number. Refused or not, the record has what it was given, and no byte. */
+/* A start answers this number. Refused or not, the record has what it was given, and no byte. After it and after a lump it is asked what is missing. */
 int starts(struct reader *r, size_t rows, size_t columns, size_t k, size_t number);
 
 /* A lump answers this number. Accepted, its bytes follow those before. Refused with 9 for the first time, only `taken` changes. Else nothing does. */

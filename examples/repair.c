@@ -1,31 +1,13 @@
 /* Read this first: one row and one block of memory with stuck cells are written and read back, counters are converted, and three calls are refused.
  *
- *     rt staticlib ernavluq
- *     cc -std=c99 -Iinclude examples/repair.c target/staticlib/libernavluq.a -o target/repair && target/repair
+ *     ./run archive
+ *     cc -std=c99 -Iinclude examples/repair.c target/staticlib/$(uname -m)/libernavluq.a -o target/repair && target/repair
  */
 #include <inttypes.h>
 #include <stdio.h>
 #include <string.h>
 
 #include "ernavluq.h"
-
-static const char *in_words(size_t number)
-{
-    switch (number) {
-    case ERNAVLUQ_ACCEPTED: return "accepted";
-    case ERNAVLUQ_OUT_OF_RANGE: return "n, the rows, the columns, K or the target lie outside their range";
-    case ERNAVLUQ_WRONG_LENGTH: return "a buffer is not exactly as long as it should be";
-    case ERNAVLUQ_BIT_PAST_END: return "a word has a bit past the last column, or a spare bit is 1";
-    case ERNAVLUQ_MALFORMED: return "the metadata is not well formed, or a counter is above K";
-    case ERNAVLUQ_SAME_POINTER: return "two active entries hold the same pointer";
-    case ERNAVLUQ_NO_ENTRY_LEFT: return "the row has no entry left";
-    case ERNAVLUQ_UNMASKABLE: return "the faults of the block cannot be masked for this data";
-    case ERNAVLUQ_SHORT_BLOCK: return "bytes of a block that arrives in lumps are missing";
-    case ERNAVLUQ_LONG_BLOCK: return "more bytes came in lumps than the block has";
-    case ERNAVLUQ_MISREAD: return "by these counters a stuck cell would read wrong";
-    default: return "no number that a call answers";
-    }
-}
 
 /* A pointer row of six entries keeps a text of 64 bytes, though three of its cells are stuck at 1. */
 static int repair_a_row(void)
@@ -44,11 +26,12 @@ static int repair_a_row(void)
 
     written = ernavluq_pointer_write(
         ENTRIES, data, sizeof data, mask, sizeof mask, values, sizeof values, cells, sizeof cells, metadata, sizeof metadata);
-    printf("row, written:  %s; %zu of %d entries are active, %zu of them new\n", in_words(written.number), written.active, ENTRIES, written.new_entries);
+    printf("row, written:  %s; %zu of %d entries are active, %zu of them new\n", ernavluq_in_words(written.number), written.active, ENTRIES,
+        written.new_entries);
     printf("  the cells:   \"%.*s\"\n", (int)sizeof cells, (const char *)cells);
 
     read = ernavluq_pointer_read(ENTRIES, cells, sizeof cells, metadata, sizeof metadata, out, sizeof out);
-    printf("row, read:     %s\n", in_words(read.number));
+    printf("row, read:     %s\n", ernavluq_in_words(read.number));
     printf("  the data:    \"%.*s\"\n", (int)sizeof out, (const char *)out);
 
     return written.number == ERNAVLUQ_ACCEPTED && read.number == ERNAVLUQ_ACCEPTED && memcmp(out, data, sizeof data) == 0;
@@ -78,25 +61,25 @@ static int repair_a_block(void)
     int untouched;
 
     refused = ernavluq_grid_plan(ROWS, COLUMNS, K - 1, data, ROWS, mask, ROWS, values, ROWS, counters, sizeof counters);
-    printf("plan, K = 2:   refused with number %zu: %s\n", refused.number, in_words(refused.number));
+    printf("plan, K = 2:   refused with number %zu: %s\n", refused.number, ernavluq_in_words(refused.number));
 
     planned = ernavluq_grid_plan(ROWS, COLUMNS, K, data, ROWS, mask, ROWS, values, ROWS, counters, sizeof counters);
-    printf("plan, K = 3:   %s; %zu levels for %zu stuck cells, %zu wrong and %zu right\n", in_words(planned.number), planned.levels, planned.faults,
+    printf("plan, K = 3:   %s; %zu levels for %zu stuck cells, %zu wrong and %zu right\n", ernavluq_in_words(planned.number), planned.levels, planned.faults,
         planned.wrong, planned.right);
     if (planned.number != ERNAVLUQ_ACCEPTED)
         return 0;
 
     stored = ernavluq_grid_store(ROWS, COLUMNS, K, data, ROWS, mask, ROWS, values, ROWS, counters, sizeof counters, cells, ROWS);
-    printf("block, stored: %s\n", in_words(stored.number));
+    printf("block, stored: %s\n", ernavluq_in_words(stored.number));
     print_words("  the cells:  ", cells, ROWS);
 
     read = ernavluq_grid_read(ROWS, COLUMNS, K, cells, ROWS, counters, sizeof counters, out, ROWS);
-    printf("block, read:   %s\n", in_words(read.number));
+    printf("block, read:   %s\n", ernavluq_in_words(read.number));
     print_words("  the data:   ", out, ROWS);
 
     /* The module goes over to K = 7, for which counters have three bits: the same cells read as before. */
     converted = ernavluq_grid_convert(ROWS, COLUMNS, K, ERNAVLUQ_MAX_LEVELS, counters, sizeof counters, wide, sizeof wide);
-    printf("to K = 7:      %s; %zu bytes of counters become %zu\n", in_words(converted.number), sizeof counters, sizeof wide);
+    printf("to K = 7:      %s; %zu bytes of counters become %zu\n", ernavluq_in_words(converted.number), sizeof counters, sizeof wide);
     again = ernavluq_grid_read(ROWS, COLUMNS, ERNAVLUQ_MAX_LEVELS, cells, ROWS, wide, sizeof wide, out, ROWS);
     print_words("  the data:   ", out, ROWS);
 
@@ -108,7 +91,7 @@ static int repair_a_block(void)
     /* Other data, for which cell 0 of row 0 is stuck at the right bit: these counters would invert it, so a plan has to make new ones. */
     memcpy(before, cells, sizeof before);
     misread = ernavluq_grid_store(ROWS, COLUMNS, K, other, ROWS, mask, ROWS, values, ROWS, counters, sizeof counters, cells, ROWS);
-    printf("other data:    refused with number %zu: %s\n", misread.number, in_words(misread.number));
+    printf("other data:    refused with number %zu: %s\n", misread.number, ernavluq_in_words(misread.number));
     untouched = memcmp(cells, before, sizeof cells) == 0;
     printf("  the cells:   %s\n", untouched ? "as before" : "altered");
 

@@ -1,7 +1,7 @@
 /* Read this for blocks that arrive in lumps: a sensor module sends a stored block over a cable that drops out, and the reader gets its data all the same.
  *
- *     rt staticlib ernavluq
- *     cc -std=c99 -Iinclude examples/transfer.c target/staticlib/libernavluq.a -o target/transfer && target/transfer
+ *     ./run archive
+ *     cc -std=c99 -Iinclude examples/transfer.c target/staticlib/$(uname -m)/libernavluq.a -o target/transfer && target/transfer
  */
 #include <inttypes.h>
 #include <stdio.h>
@@ -14,20 +14,6 @@ enum { ROWS = 4, COLUMNS = 12, K = 3, LUMP = 10 };
 enum { COUNTERS = ERNAVLUQ_COUNTER_BYTES(ROWS, COLUMNS, K), BLOCK = ERNAVLUQ_BLOCK_BYTES(ROWS, COLUMNS, K) };
 
 static const uint64_t readings[ROWS] = {0x9C4, 0x9C6, 0x9C1, 0x9BF};
-
-static const char *in_words(size_t number)
-{
-    switch (number) {
-    case ERNAVLUQ_ACCEPTED: return "accepted";
-    case ERNAVLUQ_OUT_OF_RANGE: return "the rows, the columns or K lie outside their range";
-    case ERNAVLUQ_WRONG_LENGTH: return "the output has not one word a row";
-    case ERNAVLUQ_BIT_PAST_END: return "a cell word has a bit past the last column, or a spare bit of the counters is 1";
-    case ERNAVLUQ_MALFORMED: return "a counter is above K";
-    case ERNAVLUQ_SHORT_BLOCK: return "bytes of the block are missing";
-    case ERNAVLUQ_LONG_BLOCK: return "since the start more bytes came than the block has";
-    default: return "no number that these calls answer";
-    }
-}
 
 static void print_words(const char *label, const uint64_t *words, size_t count)
 {
@@ -52,44 +38,50 @@ static int store_a_block(uint8_t *block)
     for (size_t i = 0; i < ROWS; i++)
         for (size_t q = 0; q < 8; q++)
             block[COUNTERS + 8 * i + q] = (uint8_t)(cells[i] >> 8 * q);
-    printf("block, stored: %s; %zu stuck cells, %zu of them wrong\n", in_words(stored.number), stored.faults, stored.wrong);
+    printf("block, stored: %s; %zu stuck cells, %zu of them wrong\n", ernavluq_in_words(stored.number), stored.faults, stored.wrong);
     print_words("  the data:   ", readings, ROWS);
     print_words("  the cells:  ", cells, ROWS);
     printf("  to be sent:  %d bytes, %d of counters and %d of cells\n", BLOCK, COUNTERS, BLOCK - COUNTERS);
     return stored.number == ERNAVLUQ_ACCEPTED && stored.faults == 2 && stored.wrong == 2 && cells[1] == 0x98E && cells[2] == 0x989;
 }
 
+/* What is still missing, by the transfer itself. */
+static void print_missing(const ernavluq_transfer *transfer)
+{
+    ernavluq_transfer_missing_answer missing = ernavluq_transfer_missing(transfer);
+    if (missing.number == ERNAVLUQ_ACCEPTED)
+        printf("accepted; %zu of %d bytes are missing\n", missing.bytes, BLOCK);
+    else
+        printf("refused with number %zu: %s\n", missing.number, ernavluq_in_words(missing.number));
+}
+
 /* A new start, for this block. Whatever the transfer was before is given up. */
 static size_t start(ernavluq_transfer *transfer)
 {
-    ernavluq_transfer_step step = ernavluq_transfer_start(ROWS, COLUMNS, K);
-    *transfer = step.transfer;
-    printf("start:         %s; %zu of %d bytes are there\n", in_words(step.number), step.transfer.taken, BLOCK);
-    return step.number;
+    size_t number = ernavluq_transfer_start(transfer, ROWS, COLUMNS, K);
+    printf("start:         ");
+    print_missing(transfer);
+    return number;
 }
 
-/* A lump comes. Accepted or refused, the reader goes on with the transfer that the call returned. */
+/* A lump comes. A refusal is noted in the transfer, so a reader that does not look at the number loses nothing: the finish answers it too. */
 static size_t take(ernavluq_transfer *transfer, const uint8_t *bytes, size_t length)
 {
-    ernavluq_transfer_step step = ernavluq_transfer_lump(*transfer, bytes, length);
-    *transfer = step.transfer;
+    size_t number = ernavluq_transfer_lump(transfer, bytes, length);
     printf("lump of %2zu:    ", length);
-    if (step.number == ERNAVLUQ_ACCEPTED)
-        printf("accepted; %zu of %d bytes are there\n", step.transfer.taken, BLOCK);
-    else
-        printf("refused with number %zu: %s\n", step.number, in_words(step.number));
-    return step.number;
+    print_missing(transfer);
+    return number;
 }
 
 /* The reader takes the block to be complete. By the number it knows whether there is data: refused, the output is what it was. */
 static size_t finish(const ernavluq_transfer *transfer, uint64_t *out)
 {
-    ernavluq_grid_read_answer read = ernavluq_transfer_finish(*transfer, out, ROWS);
+    ernavluq_grid_read_answer read = ernavluq_transfer_finish(transfer, out, ROWS);
     if (read.number == ERNAVLUQ_ACCEPTED) {
         printf("finish:        accepted\n");
         print_words("  the data:   ", out, ROWS);
     } else {
-        printf("finish:        refused with number %zu: %s\n", read.number, in_words(read.number));
+        printf("finish:        refused with number %zu: %s\n", read.number, ernavluq_in_words(read.number));
     }
     return read.number;
 }

@@ -1,7 +1,9 @@
-//! What the calls answer: the structs of `include/ernavluq.h`, field by field, for all three contestants; and what a whole
-//! transfer does, which is many calls.
+//! What the calls answer: the archive's own structs, for all three contestants; and what a whole transfer does, which is many calls.
 
 use std::fmt::Debug;
+
+pub use crate::raw::{GridAnswer, GridConvertAnswer, GridReadAnswer};
+pub use crate::raw::{PointerReadAnswer, PointerWriteAnswer};
 
 /// An answer of some kind of call: a number, and what else that kind answers.
 pub trait Answer: Clone + Debug + PartialEq {
@@ -13,51 +15,6 @@ pub trait Answer: Clone + Debug + PartialEq {
 pub trait Figures: Answer + Copy {
     /// The answer of a call that is refused: every figure is 0. With number 4 a grid call then puts its index in.
     fn refused(number: usize) -> Self;
-}
-
-/// What a pointer read answers: the number alone.
-#[repr(C)]
-#[derive(Clone, Copy, Debug, Default, PartialEq, Eq)]
-pub struct PointerReadAnswer {
-    pub number: usize,
-}
-
-/// What a pointer write answers: the number, the entries active afterwards, and how many of them are new.
-#[repr(C)]
-#[derive(Clone, Copy, Debug, Default, PartialEq, Eq)]
-pub struct PointerWriteAnswer {
-    pub number: usize,
-    pub active: usize,
-    pub new_entries: usize,
-}
-
-/// What a grid read answers: the number, and with number 4 the index of the first counter above K.
-#[repr(C)]
-#[derive(Clone, Copy, Debug, Default, PartialEq, Eq)]
-pub struct GridReadAnswer {
-    pub number: usize,
-    pub index: usize,
-}
-
-/// What a grid convert answers: the number, and with number 4 the index of the first counter above K.
-#[repr(C)]
-#[derive(Clone, Copy, Debug, Default, PartialEq, Eq)]
-pub struct GridConvertAnswer {
-    pub number: usize,
-    pub index: usize,
-}
-
-/// What a grid plan and a grid store answer: the number, L, all stuck cells F, apart the wrong and the right ones, and
-/// with number 4 the index of the first counter above K.
-#[repr(C)]
-#[derive(Clone, Copy, Debug, Default, PartialEq, Eq)]
-pub struct GridAnswer {
-    pub number: usize,
-    pub levels: usize,
-    pub faults: usize,
-    pub wrong: usize,
-    pub right: usize,
-    pub index: usize,
 }
 
 /// What a whole transfer answers: the number and the index of its last finish, and the numbers of the first start and of

@@ -1,88 +1,15 @@
-//! The archive's six functions of whole rows and blocks, as `include/ernavluq.h` declares them, over slices.
+//! The archive's six functions of whole rows and blocks, over slices.
 
 use crate::answers::{GridAnswer, GridConvertAnswer, GridReadAnswer};
 use crate::answers::{PointerReadAnswer, PointerWriteAnswer};
-
-extern "C" {
-    fn ernavluq_pointer_read(
-        n: usize,
-        cells: *const u8,
-        cells_length: usize,
-        metadata: *const u8,
-        metadata_length: usize,
-        out: *mut u8,
-        out_length: usize,
-    ) -> PointerReadAnswer;
-    fn ernavluq_pointer_write(
-        n: usize,
-        data: *const u8,
-        data_length: usize,
-        mask: *const u8,
-        mask_length: usize,
-        values: *const u8,
-        values_length: usize,
-        cells: *mut u8,
-        cells_length: usize,
-        metadata: *mut u8,
-        metadata_length: usize,
-    ) -> PointerWriteAnswer;
-    fn ernavluq_grid_read(
-        rows: usize,
-        columns: usize,
-        k: usize,
-        cells: *const u64,
-        cells_length: usize,
-        counters: *const u8,
-        counters_length: usize,
-        out: *mut u64,
-        out_length: usize,
-    ) -> GridReadAnswer;
-    fn ernavluq_grid_plan(
-        rows: usize,
-        columns: usize,
-        k: usize,
-        data: *const u64,
-        data_length: usize,
-        mask: *const u64,
-        mask_length: usize,
-        values: *const u64,
-        values_length: usize,
-        counters: *mut u8,
-        counters_length: usize,
-    ) -> GridAnswer;
-    fn ernavluq_grid_store(
-        rows: usize,
-        columns: usize,
-        k: usize,
-        data: *const u64,
-        data_length: usize,
-        mask: *const u64,
-        mask_length: usize,
-        values: *const u64,
-        values_length: usize,
-        counters: *const u8,
-        counters_length: usize,
-        cells: *mut u64,
-        cells_length: usize,
-    ) -> GridAnswer;
-    fn ernavluq_grid_convert(
-        rows: usize,
-        columns: usize,
-        k: usize,
-        to: usize,
-        counters: *const u8,
-        counters_length: usize,
-        out: *mut u8,
-        out_length: usize,
-    ) -> GridConvertAnswer;
-}
+use crate::raw;
 
 /// The archive's pointer read.
 #[inline(always)]
 pub fn pointer_read(n: usize, cells: &[u8], metadata: &[u8], out: &mut [u8]) -> PointerReadAnswer {
     // SAFETY: each pointer and length is one slice's, and the borrows keep the changed one apart from the others.
     unsafe {
-        ernavluq_pointer_read(
+        raw::ernavluq_pointer_read_r2(
             n,
             cells.as_ptr(),
             cells.len(),
@@ -104,9 +31,11 @@ pub fn pointer_write(
     cells: &mut [u8],
     metadata: &mut [u8],
 ) -> PointerWriteAnswer {
+    let mut answer = PointerWriteAnswer::default();
     // SAFETY: as for the pointer read.
     unsafe {
-        ernavluq_pointer_write(
+        raw::ernavluq_pointer_write_r2(
+            &mut answer,
             n,
             data.as_ptr(),
             data.len(),
@@ -120,6 +49,7 @@ pub fn pointer_write(
             metadata.len(),
         )
     }
+    answer
 }
 
 /// The archive's grid read; the numbers are rows, columns and K.
@@ -132,7 +62,7 @@ pub fn grid_read(
 ) -> GridReadAnswer {
     // SAFETY: as for the pointer read; a slice of words is aligned.
     unsafe {
-        ernavluq_grid_read(
+        raw::ernavluq_grid_read_r2(
             numbers[0],
             numbers[1],
             numbers[2],
@@ -155,9 +85,11 @@ pub fn grid_plan(
     values: &[u64],
     counters: &mut [u8],
 ) -> GridAnswer {
+    let mut answer = GridAnswer::default();
     // SAFETY: as for the grid read.
     unsafe {
-        ernavluq_grid_plan(
+        raw::ernavluq_grid_plan_r2(
+            &mut answer,
             numbers[0],
             numbers[1],
             numbers[2],
@@ -171,6 +103,7 @@ pub fn grid_plan(
             counters.len(),
         )
     }
+    answer
 }
 
 /// The archive's grid store; the numbers are rows, columns and K.
@@ -183,9 +116,11 @@ pub fn grid_store(
     counters: &[u8],
     cells: &mut [u64],
 ) -> GridAnswer {
+    let mut answer = GridAnswer::default();
     // SAFETY: as for the grid read.
     unsafe {
-        ernavluq_grid_store(
+        raw::ernavluq_grid_store_r2(
+            &mut answer,
             numbers[0],
             numbers[1],
             numbers[2],
@@ -201,6 +136,7 @@ pub fn grid_store(
             cells.len(),
         )
     }
+    answer
 }
 
 /// The archive's grid convert; the numbers are rows, columns, K and the target.
@@ -208,7 +144,7 @@ pub fn grid_store(
 pub fn grid_convert(numbers: [usize; 4], counters: &[u8], out: &mut [u8]) -> GridConvertAnswer {
     // SAFETY: as for the pointer read.
     unsafe {
-        ernavluq_grid_convert(
+        raw::ernavluq_grid_convert_r2(
             numbers[0],
             numbers[1],
             numbers[2],

@@ -55,6 +55,7 @@ impl Calls {
     pub fn new(seed: u64) -> Calls {
         let cases = [
             cases_pointer::all(),
+            cases_pointer::kept_entries(),
             cases_grid::all(),
             cases_levels::all(),
             cases_wide_counters::all(),

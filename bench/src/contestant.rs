@@ -5,8 +5,7 @@ use second::call::{PointerRead, PointerWrite, Transfer};
 
 use crate::answers::{GridAnswer, GridConvertAnswer, GridReadAnswer};
 use crate::answers::{PointerReadAnswer, PointerWriteAnswer, TransferAnswer};
-use crate::archive_transfer::TransferStep;
-use crate::records::{PlainRecord, Record};
+use crate::records::{ArchiveRecord, PlainRecord, Record};
 use crate::{archive, peer, script};
 
 /// A number of a call as the machine's own word; they have the same 64 bits.
@@ -56,7 +55,7 @@ pub struct Peer;
 pub struct Second;
 
 impl Contestant for Archive {
-    type Record = TransferStep;
+    type Record = ArchiveRecord;
 
     #[inline(always)]
     fn pointer_write(c: &mut PointerWrite) -> PointerWriteAnswer {

@@ -35,20 +35,21 @@ impl Input for Arrival {
     /// The start, all lumps and the finish; as a caller would, it stops at the first refusal.
     #[inline(always)]
     fn made_by<C: Contestant>(&mut self) -> GridReadAnswer {
-        let mut record = C::Record::start(self.numbers);
-        if record.number() != 0 {
-            return GridReadAnswer::refused(record.number());
-        }
-        let mut left = self.bytes.as_slice();
-        for length in self.lumps.iter() {
-            let (lump, rest) = left.split_at(*length);
-            left = rest;
-            let number = record.lump(lump);
-            if number != 0 {
-                return GridReadAnswer::refused(number);
+        C::Record::begin(self.numbers, |record| {
+            if record.number() != 0 {
+                return GridReadAnswer::refused(record.number());
             }
-        }
-        record.finish(&mut self.output)
+            let mut left = self.bytes.as_slice();
+            for length in self.lumps.iter() {
+                let (lump, rest) = left.split_at(*length);
+                left = rest;
+                let number = record.lump(lump);
+                if number != 0 {
+                    return GridReadAnswer::refused(number);
+                }
+            }
+            record.finish(&mut self.output)
+        })
     }
 
     fn restore(&mut self, before: &Arrival) {

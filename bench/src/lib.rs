@@ -17,6 +17,8 @@ pub mod inputs_grid;
 pub mod inputs_pointer;
 pub mod inputs_transfer;
 pub mod peer;
+#[path = "../../rust/src/raw.rs"]
+pub mod raw;
 pub mod records;
 pub mod scenarios;
 pub mod scenarios_grid;

@@ -21,28 +21,29 @@ pub fn sends(count: usize) -> Vec<u8> {
 /// The first start, a step a script byte, and the last finish. What a lump asks for has left the bytes, taken or not.
 pub fn run<R: Record>(call: &mut Transfer) -> TransferAnswer {
     let numbers = call.numbers.map(|number| number as usize);
-    let mut record = R::start(numbers);
-    let mut steps = vec![record.number() as u8];
-    let mut left = call.bytes.as_slice();
-    for step in &call.script {
-        let number = match *step {
-            NEW_START => {
-                record = R::start(numbers);
-                record.number()
-            }
-            FINISH => record.finish(&mut call.output).number,
-            asked => {
-                let (lump, rest) = left.split_at(left.len().min(usize::from(asked)));
-                left = rest;
-                record.lump(lump)
-            }
-        };
-        steps.push(number as u8);
-    }
-    let GridReadAnswer { number, index } = record.finish(&mut call.output);
-    TransferAnswer {
-        number,
-        index,
-        steps,
-    }
+    R::begin(numbers, |record| {
+        let mut steps = vec![record.number() as u8];
+        let mut left = call.bytes.as_slice();
+        for step in &call.script {
+            let number = match *step {
+                NEW_START => {
+                    record.restart(numbers);
+                    record.number()
+                }
+                FINISH => record.finish(&mut call.output).number,
+                asked => {
+                    let (lump, rest) = left.split_at(left.len().min(usize::from(asked)));
+                    left = rest;
+                    record.lump(lump)
+                }
+            };
+            steps.push(number as u8);
+        }
+        let GridReadAnswer { number, index } = record.finish(&mut call.output);
+        TransferAnswer {
+            number,
+            index,
+            steps,
+        }
+    })
 }

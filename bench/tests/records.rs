@@ -1,8 +1,11 @@
 //! Any bits may be passed to the archive as a transfer, even if no call made them: its start, lump and finish against a few
 //! plain lines.
 
+use std::mem::MaybeUninit;
+
 use bench::answers::GridReadAnswer;
-use bench::archive_transfer::{finish, lump, start, Transfer, TransferStep, MOST_BYTES};
+use bench::archive_transfer::{finish, lump, missing, start};
+use bench::archive_transfer::{Transfer, TransferMissingAnswer, MAX_BLOCK_BYTES};
 use bench::contestant::Second;
 use bench::input::Input;
 use second::call::GridRead;
@@ -12,7 +15,7 @@ use second::random::Random;
 const RECORDS: usize = 200_000;
 
 /// What `taken` is after a lump that exceeds its block: more than any block has.
-const OVER: usize = MOST_BYTES + 1;
+const OVER: usize = MAX_BLOCK_BYTES + 1;
 
 /// The bytes of the counters and of the whole block, if the numbers are in their ranges.
 fn lengths(numbers: [usize; 3]) -> Option<[usize; 2]> {
@@ -30,9 +33,9 @@ fn numbers_of(record: &Transfer) -> [usize; 3] {
     [record.rows, record.columns, record.k]
 }
 
-/// What a lump has to give back; past the bytes that are taken a record may hold anything, and here it is unchanged.
-fn expected_lump(record: &Transfer, bytes: &[u8]) -> TransferStep {
-    let mut transfer = *record;
+/// What a lump has to answer and to leave; past the bytes that are taken a record is unchanged.
+fn expected_lump(record: &Transfer, bytes: &[u8]) -> (usize, Transfer) {
+    let mut transfer = record.clone();
     let number = match lengths(numbers_of(record)) {
         None => 1,
         Some([_, block]) if record.taken > block => 9,
@@ -47,7 +50,17 @@ fn expected_lump(record: &Transfer, bytes: &[u8]) -> TransferStep {
             0
         }
     };
-    TransferStep { number, transfer }
+    (number, transfer)
+}
+
+/// What a transfer has to say of missing bytes: the number of a lump of no bytes, and if it is 0 how many.
+fn expected_missing(record: &Transfer) -> TransferMissingAnswer {
+    let number = expected_lump(record, &[]).0;
+    let bytes = match lengths(numbers_of(record)) {
+        Some([_, block]) if number == 0 => block - record.taken,
+        _ => 0,
+    };
+    TransferMissingAnswer { number, bytes }
 }
 
 /// What a finish has to answer; the second program reads the block.
@@ -118,7 +131,7 @@ fn some_record(random: &mut Random) -> Transfer {
         columns: some_number(random, 64),
         k: some_number(random, 7),
         taken: 0,
-        bytes: [0; MOST_BYTES],
+        bytes: [0; MAX_BLOCK_BYTES],
     };
     record.bytes.fill_with(|| random.byte());
     let lengths = lengths(numbers_of(&record));
@@ -127,7 +140,7 @@ fn some_record(random: &mut Random) -> Transfer {
             put_block(random, &mut record, lengths);
         }
     }
-    let block = lengths.map_or(MOST_BYTES, |[_, block]| block);
+    let block = lengths.map_or(MAX_BLOCK_BYTES, |[_, block]| block);
     record.taken = match random.below(20) {
         0 => usize::MAX,
         1 => usize::MAX - random.below(600),
@@ -145,14 +158,14 @@ fn some_record(random: &mut Random) -> Transfer {
 
 /// The length of a lump: about what is missing, or any.
 fn some_length(random: &mut Random, record: &Transfer) -> usize {
-    let block = lengths(numbers_of(record)).map_or(MOST_BYTES, |[_, block]| block);
+    let block = lengths(numbers_of(record)).map_or(MAX_BLOCK_BYTES, |[_, block]| block);
     let missing = block.saturating_sub(record.taken);
     match random.below(8) {
         0 => 0,
         1 => missing,
         2 => missing + 1,
         3 => random.between(0, missing),
-        4 => MOST_BYTES,
+        4 => MAX_BLOCK_BYTES,
         5 => random.below(2000),
         _ => random.below(20),
     }
@@ -160,7 +173,7 @@ fn some_length(random: &mut Random, record: &Transfer) -> usize {
 
 /// A record with other bytes past those that are taken.
 fn changed_past_taken(random: &mut Random, record: &Transfer) -> Transfer {
-    let mut changed = *record;
+    let mut changed = record.clone();
     for byte in changed.bytes.iter_mut().skip(record.taken) {
         *byte ^= random.byte();
     }
@@ -172,10 +185,20 @@ fn a_start_keeps_its_numbers_and_has_taken_nothing() {
     let random = &mut Random::new(1);
     for _ in 0..20_000 {
         let numbers = [64, 64, 7].map(|most| some_number(random, most));
-        let step = start(numbers);
-        assert_eq!(step.number, usize::from(lengths(numbers).is_none()));
-        assert_eq!(numbers_of(&step.transfer), numbers);
-        assert_eq!(step.transfer.taken, 0, "{numbers:?}");
+        let [rows, columns, k] = numbers;
+        let new = Transfer {
+            rows,
+            columns,
+            k,
+            taken: 0,
+            bytes: [0; MAX_BLOCK_BYTES],
+        };
+        // Whatever the record was before.
+        let mut record = MaybeUninit::new(some_record(random));
+        let number = start(&mut record, numbers);
+        assert_eq!(number, usize::from(lengths(numbers).is_none()));
+        // SAFETY: it was a record before.
+        assert_eq!(unsafe { record.assume_init() }, new);
     }
 }
 
@@ -188,20 +211,17 @@ fn a_lump_answers_on_any_record() {
         let record = some_record(random);
         let length = some_length(random, &record);
         let bytes = random.bytes(length);
-        let expected = expected_lump(&record, &bytes);
-        let mut step = lump(record, &bytes);
-        seen[match step.number {
+        let (number, expected) = expected_lump(&record, &bytes);
+        let mut after = record.clone();
+        assert_eq!(lump(&mut after, &bytes), number);
+        assert_eq!(after, expected, "{record:?} and {length} bytes");
+        assert_eq!(missing(&after), expected_missing(&expected), "{after:?}");
+        seen[match number {
             1 => 0,
-            9 if expected.transfer == record => 1,
+            9 if expected == record => 1,
             9 => 2,
             _ => 3 + usize::from(bytes.is_empty()),
         }] += 1;
-        if expected.number == 0 {
-            // Past the bytes that are taken nothing is said.
-            let taken = expected.transfer.taken;
-            step.transfer.bytes[taken..].copy_from_slice(&record.bytes[taken..]);
-        }
-        assert_eq!(step, expected, "{record:?} and {length} bytes");
     }
     assert!(seen.iter().all(|times| *times > RECORDS / 100), "{seen:?}");
 }
@@ -218,10 +238,10 @@ fn a_finish_answers_on_any_record_and_by_the_taken_bytes_alone() {
         };
         let before = random.words(words);
         let (mut out, mut other_out, mut expected_out) = (before.clone(), before.clone(), before);
-        let answer = finish(record, &mut out);
+        let answer = finish(&record, &mut out);
         let expected = expected_finish(&record, &mut expected_out);
         assert_eq!((answer, &out), (expected, &expected_out), "{record:?}");
-        let other = finish(changed_past_taken(random, &record), &mut other_out);
+        let other = finish(&changed_past_taken(random, &record), &mut other_out);
         assert_eq!((answer, &out), (other, &other_out), "{record:?}");
         seen[answer.number] += 1;
     }

@@ -17,7 +17,7 @@
 //! let mut cells = [0; ROW_BYTES];
 //! let mut metadata = [0; metadata_bytes(6)]; // a new row
 //! let written = pointer_write(6, &data, &mask, &values, &mut cells, &mut metadata)?;
-//! assert_eq!((written.active, written.new), (1, 1));
+//! assert_eq!((written.active, written.new_entries), (1, 1));
 //! assert_eq!(cells[0], 1 << 3); // a stuck cell keeps its value
 //!
 //! let mut out = [0xFF; ROW_BYTES];
@@ -29,19 +29,20 @@
 //!
 //! The same calls from C are in `include/ernavluq.h`.
 mod answers;
-mod ffi;
+mod raw;
 mod refusal;
 mod transfer;
 
-pub use answers::{
-    Answer, GridAnswer, GridConvertAnswer, GridReadAnswer, PointerReadAnswer, PointerWriteAnswer,
-    TransferAnswer,
+pub use answers::{Answer, TransferAnswer};
+pub use raw::{
+    GridAnswer, GridConvertAnswer, GridReadAnswer, PointerReadAnswer, PointerWriteAnswer, Transfer,
+    TransferMissingAnswer, MAX_BLOCK_BYTES,
 };
 pub use refusal::{
-    Refusal, BIT_PAST_END, LONG_BLOCK, MALFORMED, MISREAD, NO_ENTRY_LEFT, OUT_OF_RANGE,
+    in_words, Refusal, BIT_PAST_END, LONG_BLOCK, MALFORMED, MISREAD, NO_ENTRY_LEFT, OUT_OF_RANGE,
     SAME_POINTER, SHORT_BLOCK, UNMASKABLE, WRONG_LENGTH,
 };
-pub use transfer::{block_bytes, Transfer, MAX_BLOCK_BYTES};
+pub use transfer::block_bytes;
 
 /// The bytes of a row's data, mask, values, cells and output: position p is bit p mod 8 of byte p / 8, the lowest first.
 pub const ROW_BYTES: usize = 64;
@@ -81,7 +82,7 @@ fn judged<A: Copy>(answer: A, whole: fn(A) -> Answer) -> Result<A, Refusal> {
 /// let mut out = [0; 64];
 /// let refusal = ernavluq::pointer_read(11, &[0; 64], &[0; 8], &mut out).unwrap_err();
 /// assert_eq!(refusal.number(), ernavluq::OUT_OF_RANGE);
-/// assert_eq!(refusal.to_string(), "refusal 1: n, the rows, the columns, K or the target lie outside their range");
+/// assert_eq!(refusal.to_string(), "refusal 1: n, the rows, the columns, K or the target is out of its range");
 /// ```
 pub fn pointer_read(
     n: usize,
@@ -91,7 +92,7 @@ pub fn pointer_read(
 ) -> Result<PointerReadAnswer, Refusal> {
     // SAFETY: see above.
     let answer = unsafe {
-        ffi::ernavluq_pointer_read(
+        raw::ernavluq_pointer_read_r2(
             n,
             cells.as_ptr(),
             cells.len(),
@@ -113,7 +114,7 @@ pub fn pointer_read(
 /// mask[0] = 8;
 /// let values = mask;
 /// let refusal = ernavluq::pointer_write(1, &[0; 64], &mask, &values, &mut cells, &mut metadata).unwrap_err();
-/// assert_eq!(refusal.to_string(), "refusal 6: the row has no entry left");
+/// assert_eq!(refusal.number(), ernavluq::NO_ENTRY_LEFT);
 /// assert_eq!((cells, metadata), ([0; 64], [0xFF, 0x03]));
 /// ```
 pub fn pointer_write(
@@ -124,9 +125,11 @@ pub fn pointer_write(
     cells: &mut [u8],
     metadata: &mut [u8],
 ) -> Result<PointerWriteAnswer, Refusal> {
+    let mut answer = PointerWriteAnswer::default();
     // SAFETY: see above.
-    let answer = unsafe {
-        ffi::ernavluq_pointer_write(
+    unsafe {
+        raw::ernavluq_pointer_write_r2(
+            &mut answer,
             n,
             data.as_ptr(),
             data.len(),
@@ -150,7 +153,7 @@ pub fn pointer_write(
 /// // A chain of three stuck cells is too much for one level, and not for two.
 /// let (data, mask, values, mut counters) = ([0; 2], [3, 2], [1, 2], [0]);
 /// let refusal = ernavluq::grid_plan(2, 2, 1, &data, &mask, &values, &mut counters).unwrap_err();
-/// assert_eq!(refusal.to_string(), "refusal 7: the faults of the block cannot be masked for this data");
+/// assert_eq!(refusal.number(), ernavluq::UNMASKABLE);
 /// let planned = ernavluq::grid_plan(2, 2, 2, &data, &mask, &values, &mut counters).unwrap();
 /// assert_eq!((planned.levels, planned.faults, counters), (2, 3, [0x96]));
 /// assert_eq!((planned.wrong, planned.right), (2, 1));
@@ -164,9 +167,11 @@ pub fn grid_plan(
     values: &[u64],
     counters: &mut [u8],
 ) -> Result<GridAnswer, Refusal> {
+    let mut answer = GridAnswer::default();
     // SAFETY: see above.
-    let answer = unsafe {
-        ffi::ernavluq_grid_plan(
+    unsafe {
+        raw::ernavluq_grid_plan_r2(
+            &mut answer,
             rows,
             columns,
             k,
@@ -200,7 +205,7 @@ pub fn grid_plan(
 ///
 /// // For a 0 these counters do not serve: the cell would be read inverted.
 /// let refusal = grid_store(1, 1, 1, &[0], &[1], &[0], &counters, &mut cells).unwrap_err();
-/// assert_eq!(refusal.to_string(), "refusal 13: by these counters a stuck cell would read wrong");
+/// assert_eq!(refusal.to_string(), "refusal 13: by these counters a stuck cell would read wrong for this data");
 /// # Ok(())
 /// # }
 /// ```
@@ -215,9 +220,11 @@ pub fn grid_store(
     counters: &[u8],
     cells: &mut [u64],
 ) -> Result<GridAnswer, Refusal> {
+    let mut answer = GridAnswer::default();
     // SAFETY: see above.
-    let answer = unsafe {
-        ffi::ernavluq_grid_store(
+    unsafe {
+        raw::ernavluq_grid_store_r2(
+            &mut answer,
             rows,
             columns,
             k,
@@ -254,7 +261,7 @@ pub fn grid_read(
 ) -> Result<GridReadAnswer, Refusal> {
     // SAFETY: see above.
     let answer = unsafe {
-        ffi::ernavluq_grid_read(
+        raw::ernavluq_grid_read_r2(
             rows,
             columns,
             k,
@@ -301,7 +308,7 @@ pub fn grid_convert(
 ) -> Result<GridConvertAnswer, Refusal> {
     // SAFETY: see above.
     let answer = unsafe {
-        ffi::ernavluq_grid_convert(
+        raw::ernavluq_grid_convert_r2(
             rows,
             columns,
             k,

@@ -24,6 +24,24 @@ pub const LONG_BLOCK: usize = 9;
 /// By the counters that a store is lent, a stuck cell would read wrong.
 pub const MISREAD: usize = 13;
 
+/// A number in words, for a log or a display: those that `ernavluq_in_words` gives in C.
+pub fn in_words(number: usize) -> &'static str {
+    match number {
+        0 => "accepted",
+        OUT_OF_RANGE => "n, the rows, the columns, K or the target is out of its range",
+        WRONG_LENGTH => "a buffer has not the length that it should have",
+        BIT_PAST_END => "a bit past the last column is 1, or a spare bit of metadata or counters",
+        MALFORMED => "the metadata is not well formed, or a counter is above K",
+        SAME_POINTER => "two active entries hold the same pointer",
+        NO_ENTRY_LEFT => "the row has too few entries for this data; other data may fit, or a row begun anew from zeros",
+        UNMASKABLE => "K levels do not mask the stuck cells for this data; other data may fit, or a larger K",
+        SHORT_BLOCK => "bytes of the block are missing",
+        LONG_BLOCK => "since the start more bytes came than the block has",
+        MISREAD => "by these counters a stuck cell would read wrong for this data",
+        _ => "no number that a call answers",
+    }
+}
+
 /// A call that was refused: the lowest refusal that applies; only the finish of a [`Transfer`](crate::Transfer) has an order of its own. No buffer was
 /// altered.
 #[derive(Clone, Copy, Debug, PartialEq, Eq)]
@@ -56,20 +74,8 @@ impl fmt::Display for Refusal {
         if let Some(index) = self.bad_counter() {
             return write!(f, "refusal {MALFORMED}: counter {index} is above K");
         }
-        let words = match self.number() {
-            OUT_OF_RANGE => "n, the rows, the columns, K or the target lie outside their range",
-            WRONG_LENGTH => "a buffer is not exactly as long as it should be",
-            BIT_PAST_END => "a word has a bit past the last column, or a spare bit is 1",
-            MALFORMED => "the metadata is not well formed",
-            SAME_POINTER => "two active entries hold the same pointer",
-            NO_ENTRY_LEFT => "the row has no entry left",
-            UNMASKABLE => "the faults of the block cannot be masked for this data",
-            SHORT_BLOCK => "bytes of a block that arrives in lumps are missing",
-            LONG_BLOCK => "more bytes came in lumps than the block has",
-            MISREAD => "by these counters a stuck cell would read wrong",
-            _ => "no number that a call answers",
-        };
-        write!(f, "refusal {}: {words}", self.number())
+        let number = self.number();
+        write!(f, "refusal {number}: {}", in_words(number))
     }
 }
 

@@ -1,9 +1,9 @@
 //! Blocks that arrive in lumps: a read whose bytes come cut anywhere.
-use crate::answers::{Answer, GridReadAnswer, TransferAnswer};
-use crate::{counter_bytes, ffi, judged, Refusal};
+use crate::answers::{Answer, TransferAnswer};
+use crate::raw::{self, GridReadAnswer, Transfer, MAX_BLOCK_BYTES};
+use crate::{counter_bytes, judged, Refusal};
 
-/// No block has more bytes: so many are those of 64 rows and 64 columns where `k` is 4 to 7.
-pub const MAX_BLOCK_BYTES: usize = block_bytes(64, 64, 7);
+const _: () = assert!(MAX_BLOCK_BYTES == block_bytes(64, 64, 7));
 
 /// The bytes of a block as it is sent: its counters, and after them its cell words, 8 bytes each, the lowest byte first.
 ///
@@ -30,7 +30,7 @@ pub const fn block_bytes(rows: usize, columns: usize, k: usize) -> usize {
 /// // The cable drops out. A finish is refused, and nothing is handed out.
 /// let mut out = [9; 2];
 /// assert_eq!(transfer.finish(&mut out).unwrap_err().number(), SHORT_BLOCK);
-/// assert_eq!((out, transfer.taken, block_bytes(2, 2, 3)), ([9; 2], 5, 17));
+/// assert_eq!((out, transfer.missing()?, block_bytes(2, 2, 3)), ([9; 2], 12, 17));
 ///
 /// // It is back: the bytes that are missing follow.
 /// transfer.lump(&block[transfer.taken..])?;
@@ -40,31 +40,17 @@ pub const fn block_bytes(rows: usize, columns: usize, k: usize) -> usize {
 /// # }
 /// ```
 ///
-/// It is a plain record, laid out as in C. It can be copied, kept and filled in by hand, and a copy is a transfer of its own. Any record has an answer, even
-/// if no call made it: with numbers out of range every call but a start gives [`OUT_OF_RANGE`](crate::OUT_OF_RANGE), and with more bytes taken than the block
-/// has, [`LONG_BLOCK`](crate::LONG_BLOCK). Two records are equal if all their bytes are, those past `taken` included.
-#[repr(C)]
-#[derive(Clone, Copy, Debug, PartialEq, Eq)]
-pub struct Transfer {
-    /// The rows that the start was given.
-    pub rows: usize,
-    /// The columns that it was given.
-    pub columns: usize,
-    /// The K that it was given.
-    pub k: usize,
-    /// The bytes taken so far. After [`LONG_BLOCK`](crate::LONG_BLOCK) it is more than the block has.
-    pub taken: usize,
-    /// The bytes taken come first. Those past them count for nothing: a start makes them 0.
-    pub bytes: [u8; MAX_BLOCK_BYTES],
-}
-
-/// What a start and a lump answer in C: the number, and the transfer from there on.
-#[repr(C)]
-pub(crate) struct TransferStep {
-    number: usize,
-    transfer: Transfer,
-}
-
+/// It is a plain record, laid out as in C. Each call changes it in place, and refusals 1 and 9 are noted in it. It is not `Copy`, so that no call is made on a copy
+/// by mistake: a clone does not have what is noted later. Any record has an answer, even if no call made it: with numbers out of range every call but a start
+/// gives [`OUT_OF_RANGE`](crate::OUT_OF_RANGE), and with more bytes taken than the block has, [`LONG_BLOCK`](crate::LONG_BLOCK). Two records are equal if all
+/// their bytes are, those past `taken` included.
+///
+/// ```compile_fail
+/// let mut transfer = ernavluq::Transfer::start(1, 1, 1).unwrap();
+/// let mut feed = move |bytes: &[u8]| transfer.lump(bytes);
+/// feed(&[0; 10]).unwrap_err();
+/// transfer.finish(&mut [0]); // the closure has the transfer, and no second one is left here
+/// ```
 impl Transfer {
     /// Starts a transfer of a block with these rows and columns, 1 to 64 each, and this `k`, 1 to 7: no byte is taken yet.
     ///
@@ -75,8 +61,15 @@ impl Transfer {
     /// assert_eq!(refusal.number(), ernavluq::OUT_OF_RANGE);
     /// ```
     pub fn start(rows: usize, columns: usize, k: usize) -> Result<Transfer, Refusal> {
-        let step = started(rows, columns, k);
-        judged_step(&step, Answer::TransferStart).map(|()| step.transfer)
+        let mut transfer = Transfer {
+            rows,
+            columns,
+            k,
+            taken: 0,
+            bytes: [0; MAX_BLOCK_BYTES],
+        };
+        transfer.restart(rows, columns, k)?;
+        Ok(transfer)
     }
 
     /// Starts anew in the same place. Whatever was on its way is given up, even if the numbers are refused: then every later call is refused with
@@ -97,9 +90,9 @@ impl Transfer {
     /// # }
     /// ```
     pub fn restart(&mut self, rows: usize, columns: usize, k: usize) -> Result<(), Refusal> {
-        let step = started(rows, columns, k);
-        *self = step.transfer;
-        judged_step(&step, Answer::TransferStart)
+        // SAFETY: any record may be lent, and any numbers passed.
+        let number = unsafe { raw::ernavluq_transfer_start_r2(self, rows, columns, k) };
+        judged_number(number, Answer::TransferStart)
     }
 
     /// Takes a lump, of no bytes too: its bytes follow those taken before. Lumps may follow a finish, and after a short one they may complete the block.
@@ -112,17 +105,35 @@ impl Transfer {
     /// let mut transfer = ernavluq::Transfer::start(1, 1, 1)?;
     /// transfer.lump(&[0; 9])?;
     /// let refusal = transfer.lump(&[0]).unwrap_err();
-    /// assert_eq!(refusal.to_string(), "refusal 9: more bytes came in lumps than the block has");
+    /// assert_eq!(refusal.to_string(), "refusal 9: since the start more bytes came than the block has");
     /// assert_eq!(transfer.finish(&mut [0]).unwrap_err().number(), ernavluq::LONG_BLOCK);
     /// assert_eq!(transfer.lump(&[]), Err(refusal));
     /// # Ok(())
     /// # }
     /// ```
     pub fn lump(&mut self, bytes: &[u8]) -> Result<(), Refusal> {
-        // SAFETY: the slice is lent with its own length, and any record may be passed.
-        let step = unsafe { ffi::ernavluq_transfer_lump(*self, bytes.as_ptr(), bytes.len()) };
-        *self = step.transfer;
-        judged_step(&step, Answer::TransferLump)
+        // SAFETY: the slice is lent with its own length, and any record may be lent.
+        let number = unsafe { raw::ernavluq_transfer_lump_r2(self, bytes.as_ptr(), bytes.len()) };
+        judged_number(number, Answer::TransferLump)
+    }
+
+    /// Says how many bytes of the block have not come yet.
+    ///
+    /// ```
+    /// # fn main() -> Result<(), ernavluq::Refusal> {
+    /// let mut transfer = ernavluq::Transfer::start(1, 1, 1)?;
+    /// assert_eq!(transfer.missing(), Ok(9));
+    /// transfer.lump(&[0; 7])?;
+    /// assert_eq!(transfer.missing(), Ok(2));
+    /// assert!(transfer.lump(&[0; 3]).is_err());
+    /// assert_eq!(transfer.missing().unwrap_err().number(), ernavluq::LONG_BLOCK);
+    /// # Ok(())
+    /// # }
+    /// ```
+    pub fn missing(&self) -> Result<usize, Refusal> {
+        // SAFETY: any record may be lent.
+        let answer = unsafe { raw::ernavluq_transfer_missing_r2(self) };
+        judged(answer, Answer::TransferMissing).map(|answer| answer.bytes)
     }
 
     /// Finishes the block: if all its bytes are there, `out`, one word a row, gets each cell, inverted where the smaller of its two counters is odd. The
@@ -138,7 +149,7 @@ impl Transfer {
     /// let (mut transfer, mut out) = (ernavluq::Transfer::start(1, 1, 2)?, [9]);
     /// transfer.lump(&[0x0C, 1, 0, 0, 0, 0, 0, 0])?;
     /// let refusal = transfer.finish(&mut out).unwrap_err();
-    /// assert_eq!(refusal.to_string(), "refusal 8: bytes of a block that arrives in lumps are missing");
+    /// assert_eq!(refusal.to_string(), "refusal 8: bytes of the block are missing");
     /// transfer.lump(&[0])?;
     /// let refusal = transfer.finish(&mut out).unwrap_err();
     /// assert_eq!(refusal.to_string(), "refusal 4: counter 1 is above K");
@@ -147,18 +158,12 @@ impl Transfer {
     /// # }
     /// ```
     pub fn finish(&self, out: &mut [u64]) -> Result<GridReadAnswer, Refusal> {
-        // SAFETY: the slice is lent with its own length and to nobody else, and any record may be passed.
-        let answer = unsafe { ffi::ernavluq_transfer_finish(*self, out.as_mut_ptr(), out.len()) };
+        // SAFETY: the slice is lent with its own length and to nobody else, and any record may be lent.
+        let answer = unsafe { raw::ernavluq_transfer_finish_r2(self, out.as_mut_ptr(), out.len()) };
         judged(answer, Answer::TransferFinish)
     }
 }
 
-fn started(rows: usize, columns: usize, k: usize) -> TransferStep {
-    // SAFETY: any numbers may be passed.
-    unsafe { ffi::ernavluq_transfer_start(rows, columns, k) }
-}
-
-fn judged_step(step: &TransferStep, whole: fn(TransferAnswer) -> Answer) -> Result<(), Refusal> {
-    let number = step.number;
+fn judged_number(number: usize, whole: fn(TransferAnswer) -> Answer) -> Result<(), Refusal> {
     judged(TransferAnswer { number }, whole).map(|_| ())
 }

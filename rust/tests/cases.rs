@@ -36,7 +36,7 @@ fn row(
         Ok(PointerWriteAnswer {
             number: 0,
             active,
-            new,
+            new_entries: new,
         }),
         metadata.to_vec(),
     )
@@ -46,7 +46,7 @@ fn no_row(number: usize, metadata: &[u8]) -> (Result<PointerWriteAnswer, Refusal
     let answer = Answer::PointerWrite(PointerWriteAnswer {
         number,
         active: 0,
-        new: 0,
+        new_entries: 0,
     });
     (Err(Refusal { answer }), metadata.to_vec())
 }
@@ -330,7 +330,7 @@ fn a_refusal_speaks() {
         Box::new(grid_read(0, 1, 1, &[], &[], &mut []).unwrap_err());
     assert_eq!(
         refusal.to_string(),
-        "refusal 1: n, the rows, the columns, K or the target lie outside their range"
+        "refusal 1: n, the rows, the columns, K or the target is out of its range"
     );
     for number in (1..=9).chain([13]) {
         let told = Refusal {

@@ -64,9 +64,10 @@ impl Sent {
     /// All bytes are there: a finish ends as the ordinary read does, as often as it is made.
     fn ends(&self, transfer: &Transfer) {
         for _ in 0..2 {
-            let (mut out, before) = (vec![OLD; self.rows], *transfer);
+            let (mut out, before) = (vec![OLD; self.rows], transfer.clone());
             assert_eq!(ended(transfer.finish(&mut out)), self.read);
-            assert_eq!((out, *transfer), (self.shown.clone(), before));
+            assert_eq!((out, transfer), (self.shown.clone(), &before));
+            assert_eq!(transfer.missing(), Ok(0));
         }
     }
 
@@ -81,7 +82,8 @@ impl Sent {
             refuses(&transfer, self.rows - 1, WRONG_LENGTH);
             refuses(&transfer, self.rows + 1, WRONG_LENGTH);
             transfer.lump(&[]).unwrap();
-            assert_eq!((transfer, transfer.taken), (drip, cut));
+            assert_eq!((&transfer, transfer.taken), (&drip, cut));
+            assert_eq!(transfer.missing(), Ok(self.bytes.len() - cut));
             transfer.lump(&self.bytes[cut..]).unwrap();
             self.ends(&transfer);
             drip.lump(&[*byte]).unwrap();
@@ -98,7 +100,7 @@ impl Sent {
         for (cut, more) in cuts.flat_map(|cut| [(cut, 1), (cut, 65_536)]) {
             let mut transfer = self.start();
             transfer.lump(&self.bytes[..cut]).unwrap();
-            let before = transfer;
+            let before = transfer.clone();
             let mut rest = self.bytes[cut..].to_vec();
             rest.resize(rest.len() + more, 0xFF);
             assert_eq!(transfer.lump(&rest).unwrap_err().number(), LONG_BLOCK);
@@ -122,12 +124,14 @@ fn refuses(transfer: &Transfer, words: usize, number: usize) {
 
 /// Every call but a start is refused with this number, and the record stays.
 fn stays(transfer: &mut Transfer, number: usize) {
-    let before = *transfer;
+    let before = transfer.clone();
     for length in [0, 1, 8, 17, 560, 561, 65_536 + 8] {
         let refusal = transfer.lump(&vec![0; length]).unwrap_err();
         let answer = Answer::TransferLump(TransferAnswer { number });
-        assert_eq!((refusal, *transfer), (Refusal { answer }, before));
+        assert_eq!((refusal, &*transfer), (Refusal { answer }, &before));
     }
+    let answer = Answer::TransferMissing(TransferMissingAnswer { number, bytes: 0 });
+    assert_eq!(transfer.missing(), Err(Refusal { answer }));
     for words in [0, 1, 2, 3, 64, 65] {
         refuses(transfer, words, number);
     }
@@ -249,7 +253,7 @@ fn records_that_no_call_made() {
     transfer.lump(&whole[..9]).unwrap();
     assert_eq!(transfer.bytes[..9], whole[..9]);
     assert_eq!(transfer.bytes[9..], [0xA5; 551]);
-    let mut copy = transfer;
+    let mut copy = transfer.clone();
     assert!(copy.lump(&whole).is_err());
     transfer.lump(&whole[9..]).unwrap();
     g3().ends(&transfer);

@@ -192,6 +192,26 @@ fn seven() -> Vec<Case> {
     ]
 }
 
+/// Data 1 at stuck cells, and rows that have active entries in falling order.
+pub fn kept_entries() -> Vec<Case> {
+    let falling = [0x58, 0x1a, 0x60, 0x00]; // entries for 300 and 3, with bit 0 each
+    vec![
+        written("data 1, stuck at 0", 1, &[3], &[3], &[], &[0, 0]),
+        written("data 1, stuck at 1", 1, &[3], &[], &[3], &[0, 0]),
+        written("two entries stay in order", 3, &[], &[], &[], &falling),
+        written("a third comes last", 3, &[], &[], &[7], &falling),
+        read("two entries in falling order", 3, &[3, 4, 300], &falling),
+        written(
+            "an entry stays though its cell is right",
+            2,
+            &[5],
+            &[],
+            &[5],
+            &[0x0a, 0x08, 0x00],
+        ),
+    ]
+}
+
 /// All the pointer cases, in document 01's order.
 pub fn all() -> Vec<Case> {
     [one_to_three(), four_to_six(), seven()].concat()

@@ -1,5 +1,5 @@
-//! The commands: `run` makes the calls on standard input; `make`, `cases`, `long`, `levels` and `fragments` put calls
-//! out.
+//! The commands: `run` makes the calls on standard input; `make`, `cases`, `long`, `levels`, `fragments` and `entries` put
+//! calls out.
 
 use std::io::{self, BufReader, BufWriter, Write};
 use std::process::ExitCode;
@@ -11,7 +11,8 @@ use second::{cases_convert, cases_convert_refused, cases_levels, cases_wide_coun
 use second::{cases_grid, cases_pointer, cases_transfer, long};
 
 const USAGE: &str = "usage: second run < calls | second make SEED COUNT [whole | 3] > calls \
-    | second cases > calls | second long > calls | second levels > calls | second fragments > calls";
+    | second cases > calls | second long > calls | second levels > calls | second fragments > calls \
+    | second entries > calls";
 
 /// Makes each call on the input and prints one line a call, until the input ends or a call is bad.
 fn run(output: &mut impl Write) -> Result<(), String> {
@@ -83,6 +84,14 @@ fn fragments(output: &mut impl Write) -> Result<(), String> {
     Ok(())
 }
 
+/// Puts out the calls on pointer rows with data 1 at stuck cells, and with several active entries.
+fn entries(output: &mut impl Write) -> Result<(), String> {
+    for (_, call) in &cases_pointer::kept_entries() {
+        put(output, call)?;
+    }
+    Ok(())
+}
+
 /// Puts out the calls with long buffers.
 fn put_long(output: &mut impl Write) -> Result<(), String> {
     for call in &long::all() {
@@ -105,6 +114,7 @@ fn main() -> ExitCode {
         ["long"] => put_long(&mut output),
         ["levels"] => levels(&mut output),
         ["fragments"] => fragments(&mut output),
+        ["entries"] => entries(&mut output),
         _ => Err(String::from(USAGE)),
     };
     let flushed = output.flush().map_err(|error| error.to_string());

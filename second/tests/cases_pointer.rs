@@ -99,3 +99,30 @@ fn pointer_cases_come_out_as_written() {
     ];
     check(&cases_pointer::all(), &lines);
 }
+
+#[test]
+fn entries_stay_in_their_order() {
+    let zero = row(&[]);
+    let at_3 = row(&[(0, 0x08)]);
+    let lines = [
+        ("data 1, stuck at 0", format!("0 1 1 {zero} 0704")),
+        ("data 1, stuck at 1", format!("0 0 0 {at_3} 0000")),
+        (
+            "two entries stay in order",
+            format!("0 2 0 {zero} 581a6000"),
+        ),
+        (
+            "a third comes last",
+            format!("0 3 1 {} 591ae000", row(&[(0, 0x80)])),
+        ),
+        (
+            "two entries in falling order",
+            format!("0 {}", row(&[(0, 0x10)])),
+        ),
+        (
+            "an entry stays though its cell is right",
+            format!("0 1 0 {} 0a0c00", row(&[(0, 0x20)])),
+        ),
+    ];
+    check(&cases_pointer::kept_entries(), &lines);
+}

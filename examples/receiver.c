@@ -1,0 +1,176 @@
+/* Copy this for a receiver: blocks come over a cable one after another, in frames with a sequence number and a check sum. The cable drops frames, repeats them,
+ * cuts them short and flips bits, and whole blocks are given up and sent again. At the end nothing was read wrong.
+ *
+ *     ./run archive
+ *     cc -std=c99 -Iinclude examples/receiver.c target/staticlib/$(uname -m)/libernavluq.a -o target/receiver && target/receiver
+ */
+#include <stdio.h>
+#include <string.h>
+
+#include "ernavluq.h"
+
+/* Blocks of 16 readings with 24 bits each. A frame carries at most 32 of a block's bytes. */
+enum { ROWS = 16, COLUMNS = 24, K = 3, BLOCKS = 200, LOAD = 32 };
+enum { COUNTERS = ERNAVLUQ_COUNTER_BYTES(ROWS, COLUMNS, K), BLOCK = ERNAVLUQ_BLOCK_BYTES(ROWS, COLUMNS, K) };
+
+/* ---- what goes over the cable. `at` is the place of the first byte in its block: it is what puts frames in order, and shows one that is repeated or lost. */
+
+struct frame {
+    uint32_t block;   /* the number of the block */
+    uint16_t at;      /* where its bytes begin in the block */
+    uint16_t length;  /* how many they are */
+    uint8_t load[LOAD];
+    uint32_t sum;     /* the check sum of all of these */
+};
+
+/* CRC-32, as in Ethernet: it finds every burst of up to 32 bits. */
+static uint32_t add_to_sum(uint32_t sum, uint64_t value, int bytes)
+{
+    for (int i = 0; i < 8 * bytes; i++)
+        sum = (sum >> 1) ^ (((sum ^ (uint32_t)(value >> i)) & 1) ? 0xEDB88320u : 0);
+    return sum;
+}
+
+static uint32_t sum_of(const struct frame *f)
+{
+    uint32_t sum = add_to_sum(add_to_sum(add_to_sum(0xFFFFFFFFu, f->block, 4), f->at, 2), f->length, 2);
+    for (size_t i = 0; i < LOAD; i++)
+        sum = add_to_sum(sum, f->load[i], 1);
+    return ~sum;
+}
+
+/* ---- the module that sends: its blocks are stored in worn memory, with 0 to 3 stuck cells each */
+
+static uint64_t state = 2026;
+
+static uint32_t any(uint32_t below)
+{
+    state = state * UINT64_C(6364136223846793005) + UINT64_C(1442695040888963407);
+    return (uint32_t)(state >> 33) % below;
+}
+
+struct stored {
+    uint64_t data[ROWS];  /* what was to be stored, kept aside for the check at the end */
+    uint8_t bytes[BLOCK]; /* what is sent: the counters, and then the cell words, the lowest byte first */
+};
+
+static struct stored stored[BLOCKS];
+
+static int store_a_block(struct stored *s)
+{
+    uint64_t mask[ROWS] = {0}, values[ROWS] = {0}, cells[ROWS] = {0};
+    ernavluq_grid_answer planned, done;
+    for (size_t i = 0; i < ROWS; i++)
+        s->data[i] = any(1u << COLUMNS);
+    for (uint32_t stuck = any(4); stuck > 0; stuck--) {
+        uint32_t row = any(ROWS), column = any(COLUMNS);
+        mask[row] |= (uint64_t)1 << column;
+        values[row] |= (uint64_t)any(2) << column;
+    }
+    planned = ernavluq_grid_plan(ROWS, COLUMNS, K, s->data, ROWS, mask, ROWS, values, ROWS, s->bytes, COUNTERS);
+    done = ernavluq_grid_store(ROWS, COLUMNS, K, s->data, ROWS, mask, ROWS, values, ROWS, s->bytes, COUNTERS, cells, ROWS);
+    for (size_t i = 0; i < 8 * ROWS; i++)
+        s->bytes[COUNTERS + i] = (uint8_t)(cells[i / 8] >> 8 * (i % 8));
+    return planned.number == ERNAVLUQ_ACCEPTED && done.number == ERNAVLUQ_ACCEPTED;
+}
+
+static struct frame frame_of(uint32_t block, size_t at)
+{
+    struct frame f = {block, (uint16_t)at, (uint16_t)(BLOCK - at < LOAD ? BLOCK - at : LOAD), {0}, 0};
+    memcpy(f.load, stored[block].bytes + at, f.length);
+    f.sum = sum_of(&f);
+    return f;
+}
+
+/* ---- the cable */
+
+enum mishap { NONE, LOST, REPEATED, FLIPPED, CUT };
+static size_t mishaps[CUT + 1];
+
+/* What comes out of the cable for a frame that went in: no frame, one, or two. */
+static int through_the_cable(struct frame *f)
+{
+    static const enum mishap often[] = {NONE, NONE, NONE, NONE, NONE, NONE, NONE, LOST, REPEATED, FLIPPED, CUT};
+    enum mishap now = often[any(sizeof often / sizeof *often)];
+    mishaps[now]++;
+    if (now == FLIPPED)
+        f->load[any(LOAD)] ^= (uint8_t)(1u << any(8));
+    if (now == CUT)
+        f->length = (uint16_t)any(f->length);
+    return now == LOST ? 0 : now == REPEATED ? 2 : 1;
+}
+
+/* ---- the receiver: one transfer, kept from block to block. What it tells the sender is which byte of which block it wants next. */
+
+struct receiver {
+    ernavluq_transfer transfer;
+    uint32_t block;         /* the block that is on its way */
+    uint64_t out[ROWS];
+    size_t accepted, wrong; /* blocks that were read, and blocks whose data is not what was stored */
+    size_t ignored;         /* frames with a bad sum, and frames that do not follow */
+};
+
+static void expect_block(struct receiver *r, uint32_t block)
+{
+    r->block = block;
+    ernavluq_transfer_start(&r->transfer, ROWS, COLUMNS, K);
+}
+
+/* A frame that is damaged or does not follow is not taken: the next byte is still the one that is missing. */
+static void frame_comes(struct receiver *r, const struct frame *f)
+{
+    if (f->sum != sum_of(f) || f->block != r->block || f->at != r->transfer.taken) {
+        r->ignored++;
+        return;
+    }
+    ernavluq_transfer_lump(&r->transfer, f->load, f->length);
+}
+
+/* All bytes are there: the block is read, or given up and asked for anew. The answer says whether to go on to the next block. */
+static int block_is_there(struct receiver *r)
+{
+    ernavluq_grid_read_answer read = ernavluq_transfer_finish(&r->transfer, r->out, ROWS);
+    if (read.number != ERNAVLUQ_ACCEPTED) {
+        printf("block %u: refused with number %zu: %s\n", (unsigned)r->block, read.number, ernavluq_in_words(read.number));
+        expect_block(r, r->block);
+        return 0;
+    }
+    r->accepted++;
+    r->wrong += memcmp(r->out, stored[r->block].data, sizeof r->out) != 0;
+    return 1;
+}
+
+int main(void)
+{
+    struct receiver r = {{0}, 0, {0}, 0, 0, 0};
+    size_t dropped = 0;
+    for (uint32_t block = 0; block < BLOCKS; block++)
+        if (!store_a_block(&stored[block]))
+            return 1;
+
+    expect_block(&r, 0);
+    while (r.block < BLOCKS) {
+        ernavluq_transfer_missing_answer missing = ernavluq_transfer_missing(&r.transfer);
+        struct frame f;
+        if (missing.number == ERNAVLUQ_ACCEPTED && missing.bytes == 0) {
+            if (block_is_there(&r))
+                expect_block(&r, r.block + 1);
+            continue;
+        }
+        /* Now and then the cable is pulled out for long, and the block is asked for from its first byte. */
+        if (missing.number != ERNAVLUQ_ACCEPTED || any(100) == 0) {
+            dropped++;
+            expect_block(&r, r.block);
+            continue;
+        }
+        f = frame_of(r.block, r.transfer.taken);
+        for (int times = through_the_cable(&f); times > 0; times--)
+            frame_comes(&r, &f);
+    }
+    printf("%d blocks of %d bytes in frames: %zu came whole, %zu were lost, %zu repeated, %zu had a bit flipped, %zu were cut\n", BLOCKS, BLOCK,
+        mishaps[NONE], mishaps[LOST], mishaps[REPEATED], mishaps[FLIPPED], mishaps[CUT]);
+    printf("%zu frames were ignored\n", r.ignored);
+    printf("%zu blocks were given up and begun anew\n", dropped);
+    printf("%zu blocks were read, %zu of them wrong\n", r.accepted, r.wrong);
+    return r.accepted == BLOCKS && r.wrong == 0 && r.ignored > 0 ? 0 : 1;
+}
