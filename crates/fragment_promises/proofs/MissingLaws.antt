@@ -53,7 +53,8 @@ pub one-missing-by-demands : OneMissingByDemands
 one-missing-by-demands m n k taken a a′ d e =
     let same : a .number ≡ a′ .number = first-one _ _ _ (d .first) (e .first) in
     same-missing a a′ same
-    (⊎-elim (λ l. d .none l ∙ sym (e .none (omega arith))) (λ l. let z : a .number ≡ 0 = omega arith in omega (arith, d .completes z, e .completes (sym same ∙ z))) (lt-or-le 0 (a .number)))
+    (⊎-elim (λ l. d .none l ∙ sym (e .none (omega arith)))
+    (λ l. let z : a .number ≡ 0 = omega arith in omega (arith, d .completes z, e .completes (sym same ∙ z))) (lt-or-le 0 (a .number)))
 
 pub missing-lowest : MissingLowest
 missing-lowest m n k taken a d = rising-lowest _ (a .number) refl .0 (d .first)

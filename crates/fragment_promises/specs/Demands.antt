@@ -1,6 +1,6 @@
--- What is demanded of a start, a lump, a finish and a count of what is missing: facts about the arguments and what is left, a field each. They cite no computed number and no list of cells,
--- and they alone leave one answer (Promises.antt). x is the number that a call answers, t the record that it is lent, and u that record afterwards.
--- Assumes nothing.
+-- What is demanded of a start, a lump, a finish and a count of what is missing: facts about the arguments and what is left, a field each. They cite no
+-- computed number and no list of cells, and they alone leave one answer (Promises.antt). x is the number that a call answers, t the record that it is lent,
+-- and u that record afterwards. Assumes nothing.
 use Prim.Native.Nat.{ℕ, _+_, _*_, _<_, _≤_}
 use mathlib.Core.Path.{_≡_}
 use mathlib.Core.Bool.{Bool, true}

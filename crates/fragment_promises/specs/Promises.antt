@@ -1,4 +1,5 @@
--- What a start, a lump, a finish and a count of what is missing promise: how a call ends exactly, and what is demanded of it; and that nothing else meets that. Assumes nothing.
+-- What a start, a lump, a finish and a count of what is missing promise: how a call ends exactly, and what is demanded of it; and that nothing else meets
+-- that. Assumes nothing.
 use Prim.Native.Nat.{ℕ, _+_, _<_, _≤_}
 use mathlib.Core.Path.{_≡_}
 use mathlib.Core.List.{List}
@@ -34,7 +35,7 @@ pub record Lump (t : Transfer) (bs : List ℕ) (x : ℕ) (u : Transfer) : Type 0
   pub exactly : Leaves (lumped t bs) x u
   pub demands : LumpDemands t bs x u
 
--- ---- a finish where so many bytes were taken and bs are those held: lent `out`, which holds `after` at the end. It hands no record back
+-- ---- a finish where so many bytes were taken and bs are those held: lent `out`, which holds `after` at the end. It only reads the record
 
 pub record FinishExactly (m n k taken : ℕ) (bs out : List ℕ) (answer : ReadAnswer) (after : List ℕ) : Type 0 where
   -- the number, computed
@@ -60,7 +61,7 @@ Finishes t = Finish (t .rows) (t .columns) (t .k) (t .taken) (held t)
 abbrev pub FinishesBy : Transfer → List ℕ → ReadAnswer → List ℕ → Type 0
 FinishesBy t = FinishDemands (t .rows) (t .columns) (t .k) (t .taken) (held t)
 
--- ---- how many bytes are missing where so many were taken. Nothing is lent but the record, which is only read
+-- ---- how many bytes are missing where so many were taken. It only reads the record
 
 pub record MissingExactly (m n k taken : ℕ) (answer : MissingAnswer) : Type 0 where
   pub number : answer .number ≡ standing m n k taken

@@ -1,5 +1,5 @@
--- Starts, lumps, finishes and counts of what is missing in any order, and what they come to: the read of the bytes sent since the last start, however they were cut. It is said of whatever
--- keeps the demands. Assumes nothing.
+-- Starts, lumps, finishes and counts of what is missing, in any order, and what they come to: the read of the bytes sent since the last start, however they
+-- were cut. It is said of whatever keeps the demands. Assumes nothing.
 use Prim.Native.Nat.{ℕ, _+_, _<_, _≤_, _^_}
 use mathlib.Core.Path.{_≡_}
 use mathlib.Core.List.{List, [], _∷_, _++_}
@@ -79,7 +79,7 @@ Fine h = InRange (h .rows) (h .columns) (h .k)
 abbrev pub whole : Story → ℕ
 whole h = size (h .rows) (h .columns) (h .k)
 
--- ---- the theorem: after a start, and any calls, a lump and a finish answer as the story alone says. Which record there was before the start does not count
+-- ---- the theorem: after a start, and any calls, each further call answers as the story alone says. Which record there was before the start does not count
 
 -- a lump: 1 for bad numbers, 9 where more was sent than the block has, this lump included
 abbrev pub EveryLump : Type 0
@@ -158,9 +158,10 @@ Bad = AfterCalls (λ h out a after. (Fine h → ⊥) → RefusedWith 1 out a aft
 abbrev pub AfterMissing : (ℕ → Story → List ℕ → ReadAnswer → List ℕ → Type 0) → Type 0
 AfterMissing P =
     (t u : Transfer) (m n k : ℕ) (es : List Event) (a : MissingAnswer) → Calls t (start m n k ∷ es) u → MissesBy u a → a .number ≡ 0
-    → (out : List ℕ) (b : ReadAnswer) (after : List ℕ) → FinishesBy u out b after → let h = story (begun m n k) es in length out ≡ h .rows → P (a .bytes) h out b after
+    → (out : List ℕ) (b : ReadAnswer) (after : List ℕ) → FinishesBy u out b after
+    → let h = story (begun m n k) es in length out ≡ h .rows → P (a .bytes) h out b after
 
--- none: it is the ordinary read, and answers neither 1 nor 9 nor 8
+-- none: it is the ordinary read, and answers 0, 3 or 4, so never 1, 9 or 8
 abbrev pub NoneMissing : Type 0
 NoneMissing = AfterMissing (λ bytes h out b after. bytes ≡ 0 → Below 256 (h .sent)
     → ReadsSent h out b after × ((b .number ≡ 0) ⊎ (b .number ≡ 3) ⊎ (b .number ≡ 4)))

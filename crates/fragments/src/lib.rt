@@ -1,10 +1,11 @@
 // A grid read of a block that arrives in lumps: a start, lumps of bytes cut anywhere, and a finish, which is the read of the joined bytes.
 // `start_at`, `lump_at` and `finish_at` are lent the fields of a transfer and copy none of them; `start`, `lump` and `finish` take and return a whole one.
+mod whole;
+
 use fragment_promises::LONGEST;
 use fragment_promises::MissingAnswer;
 use fragment_promises::Transfer;
 use grid_promises::ReadAnswer;
-use grid_sets::LINES;
 use refusals::ACCEPTED;
 use refusals::LONG_BLOCK;
 use refusals::OUT_OF_RANGE;
@@ -12,12 +13,11 @@ use refusals::SHORT_BLOCK;
 use refusals::WRONG_LENGTH;
 ghost use mathlib.Core.Path.{_≡_};
 ghost use mathlib.Core.List.{[]};
-ghost use Prim.Native.Nat.{_+_, _*_, _≤_, min};
+ghost use Prim.Native.Nat.{min};
 ghost use lib.ListN.{length, take};
 ghost use Rattle.bits.specs.First.{First};
 ghost use Rattle.grid_promises.specs.Refusals.{InRange};
-ghost use Rattle.grid_promises.specs.Promises.{Read};
-ghost use Rattle.fragment_promises.specs.Transfers.{counterBytes, size as sizeIs, standing as standingIs, countersOf, cellsOf, wordsFrom, transfer};
+ghost use Rattle.fragment_promises.specs.Transfers.{counterBytes, size as sizeIs, standing as standingIs, transfer};
 ghost use Rattle.fragment_promises.specs.Demands.{lengthRefusals};
 ghost use Rattle.fragment_promises.specs.Promises.{Start, Lump, Finish, Finishes, Missing};
 ghost use Rattle.fragments.specs.Steps.{Judges};
@@ -197,46 +197,6 @@ fn unfinished(rows: usize, columns: usize, k: usize, taken: usize, held: usize, 
     ACCEPTED
 }
 
-// The words of 8 bytes from byte `from` on, as many as `all` has. Eight bytes are cut out by themselves: the compiler then makes one load of them.
-fn words_into(bytes: &[u8], from: usize, all: &mut [u64])
-    requires { ⌜ (length (now all) ≤ 64) × (from ≤ 48) × (from + 8 * length (now all) ≤ length (now bytes)) ⌝ }
-    ensures { λ _. ⌜ now (all .exit) ≡ wordsFrom from (length (now (all .entry))) (now (bytes .entry)) ⌝ }
-{
-    let mut i = 0;
-    while i < all.len() {
-        let at = from + 8 * i;
-        let end = at + 8;
-        all[i] = words::load(&bytes[at..end], 0);
-        i += 1;
-    }
-}
-
-// The read of a whole block, with room for its cell words.
-fn read_by(
-    rows: usize,
-    columns: usize,
-    k: usize,
-    bytes: &[u8],
-    cells: &mut [u64],
-    out: &mut [u64],
-) -> ReadAnswer
-    requires { ⌜ InRange rows columns k × (length (now bytes) ≡ sizeIs rows columns k) × (length (now cells) ≡ rows) ⌝ }
-    ensures { λ r. ⌜ Read rows columns k (cellsOf rows columns k (now (bytes .entry))) (countersOf rows columns k (now (bytes .entry))) (now (out .entry)) r (now (out .exit)) ⌝ }
-{
-    let from = counter_bytes(rows, columns, k);
-    words_into(bytes, from, cells);
-    grid::read(rows, columns, k, &cells[..], &bytes[..from], out)
-}
-
-// The read of a whole block. The room is made here and filled where it is used: the compiler would copy an array that a function returns.
-fn read_whole(rows: usize, columns: usize, k: usize, bytes: &[u8], out: &mut [u64]) -> ReadAnswer
-    requires { ⌜ InRange rows columns k × (length (now bytes) ≡ sizeIs rows columns k) ⌝ }
-    ensures { λ r. ⌜ Read rows columns k (cellsOf rows columns k (now (bytes .entry))) (countersOf rows columns k (now (bytes .entry))) (now (out .entry)) r (now (out .exit)) ⌝ }
-{
-    let mut cells = [0u64; LINES];
-    read_by(rows, columns, k, bytes, &mut cells[..rows], out)
-}
-
 // How many bytes are held: those that were taken, or all that there are.
 fn held_bytes(taken: usize, room: usize) -> usize
     ensures { λ r. ⌜ r ≡ min taken room ⌝ }
@@ -260,7 +220,7 @@ fn finish_held(
     if number != ACCEPTED {
         return ReadAnswer { number, index: 0 };
     }
-    read_whole(rows, columns, k, &bytes[..held], out)
+    whole::read_whole(rows, columns, k, &bytes[..held], out)
 }
 
 // Reads the block into `out` if all of it was taken.

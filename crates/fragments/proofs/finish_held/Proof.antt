@@ -28,4 +28,5 @@ finish-held-spec =
     -- same-length
     (λ c. search needs)
     -- returns-2
-    (λ c. let w = c .before .before in let e = w .before .before .before in finish-whole (judged (e .before)) (e .if1 .left) (w .read-whole .result) _ (w .read-whole .ensures)))
+    (λ c. let w = c .before .before in let e = w .before .before .before in
+    finish-whole (judged (e .before)) (e .if1 .left) (w .read-whole .result) _ (w .read-whole .ensures)))

@@ -43,7 +43,7 @@ lump-at-spec =
     (λ c. omega (arith, fits (c .before .before .before) .0, c .before .loop-test .taken))
     -- add-bytes, element-write-bytes
     (λ c. omega (arith, fits (c .before .before .before) .1 (c .before .before .loop .i) (c .before .loop-test .taken)))
-    (λ c. fits (c .before .before .before) .1 (c .before .before .loop .i) (c .before .loop-test .taken))
+    (λ c. omega (arith, fits (c .before .before .before) .1 (c .before .before .loop .i) (c .before .loop-test .taken)))
     -- add-i
     (λ c. omega (arith, fits (c .before .before .before) .0, c .before .loop-test .taken))
     -- loop-less
@@ -51,10 +51,13 @@ lump-at-spec =
     -- loop-again
     (λ c. let l = c .before .before .loop in let g = c .before .before .before in let a = start g .args in let t = c .before .loop-test .taken in (
       omega arith,
-      λ room. put-more (a .bytes .now) (a .lump .now) (l .bytes) (a .taken .now) (l .i) (omega (arith, room, fits g .1 (l .i) t)) (omega (arith, fits g .0)) (l .inv .1 room),
+      λ room.
+          put-more (a .bytes .now) (a .lump .now) (l .bytes) (a .taken .now) (l .i) (omega (arith, room, fits g .1 (l .i) t)) (omega (arith, fits g .0))
+          (l .inv .1 room),
     ))
     -- returns
     (λ c room. let l = c .before .loop in let g = c .before .before in let a = start g .args in
     let e : l .i ≡ g .judge .result .more = omega (arith, l .inv .0, c .loop-test .left) in
     subst (λ x. Lump (lent g) (a .lump .now) (g .judge .result .number) (transfer (a .rows) (a .columns) (a .k) (g .judge .result .taken) x))
-    (sym (l .inv .1 room ∙ ap (paste (a .bytes .now) (a .taken .now) (a .lump .now)) e)) (judged-lump (lent g) (g .judge .result) (a .lump .now) room (g .judge .ensures))))
+    (sym (l .inv .1 room ∙ ap (paste (a .bytes .now) (a .taken .now) (a .lump .now)) e))
+    (judged-lump (lent g) (g .judge .result) (a .lump .now) room (g .judge .ensures))))

@@ -13,4 +13,5 @@ start-at-spec =
     (λ c κs. search needs)
     -- returns
     (λ c. let a = c .before .before .args in
-    subst (λ x. Start (a .rows) (a .columns) (a .k) x (started (a .rows) (a .columns) (a .k))) (sym (c .standing .ensures)) (start-promise (a .rows) (a .columns) (a .k))))
+    subst (λ x. Start (a .rows) (a .columns) (a .k) x (started (a .rows) (a .columns) (a .k))) (sym (c .standing .ensures))
+    (start-promise (a .rows) (a .columns) (a .k))))

@@ -1,8 +1,8 @@
 use mathlib.Core.Path.{sym}
 use borrow.Author.Needs.{needs}
 use lib.Seq.{length-take-le}
-use Rattle.fragments.proofs.read_whole.Statement.{statement}
-use Rattle.fragments.proofs.read_whole.Tie as tie
+use Rattle.fragments.proofs.whole.read_whole.Statement.{statement}
+use Rattle.fragments.proofs.whole.read_whole.Tie as tie
 
 pub read-whole-spec : {M : Type 1} → statement M
 read-whole-spec =

@@ -7,8 +7,8 @@ use lib.Seq.{length-take-le}
 use Rattle.grid_promises.proofs.OldReads.{longest-counters}
 use Rattle.fragment_promises.specs.Transfers.{wordsFrom}
 use Rattle.fragments.proofs.CodeLaws.{whole-length, same-read}
-use Rattle.fragments.proofs.read_by.Statement.{statement}
-use Rattle.fragments.proofs.read_by.Tie as tie
+use Rattle.fragments.proofs.whole.read_by.Statement.{statement}
+use Rattle.fragments.proofs.whole.read_by.Tie as tie
 
 -- where the counters' bytes are counted
 module _ (b : tie.After-counter-bytes) where
@@ -27,7 +27,8 @@ read-by-spec =
     (tie.spec
     (λ c κs. search needs)
     -- words-into-requires
-    (λ c κs. let s = start (c .before) in (omega (arith, s .pre .2, s .pre .0 .rows .1), few (c .before), omega (arith, s .pre .2, long (c .before))))
+    (λ c κs. let b = c .before in let s = start b in
+    (omega (arith, s .pre .2, s .pre .0 .rows .1), omega (arith, few b), omega (arith, s .pre .2, long b)))
     -- slice-aggregate-read
     (λ c. let b = c .before .before .before .before .before .before in sym (length-take-le (b .counter-bytes .result) (start b .args .bytes .now) (omega (arith, long b))))
     (λ c κs. search needs)

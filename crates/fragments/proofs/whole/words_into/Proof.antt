@@ -7,8 +7,8 @@ use lib.Seq.{take-length}
 use Rattle.bits.specs.Bits.{list}
 use Rattle.fragment_promises.specs.Transfers.{wordsFrom}
 use Rattle.fragments.proofs.CodeLaws.{one-word-more, cut-out}
-use Rattle.fragments.proofs.words_into.Statement.{statement}
-use Rattle.fragments.proofs.words_into.Tie as tie
+use Rattle.fragments.proofs.whole.words_into.Statement.{statement}
+use Rattle.fragments.proofs.whole.words_into.Tie as tie
 
 abbrev Inv-loop : tie.InvT-loop
 Inv-loop bytes from all₀ i₀ all i = (i ≤ length all) × (length all ≡ length all₀) × (take i all ≡ wordsFrom from i bytes)
