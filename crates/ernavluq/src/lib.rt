@@ -95,19 +95,19 @@ pub extern "C" fn ernavluq_grid_convert_r2(
 // A transfer is lent, and so are its fields to the call behind: nothing of it is copied.
 #[no_mangle]
 pub extern "C" fn ernavluq_transfer_start_r2(
-    t: &mut fragment_promises::Transfer,
+    transfer: &mut fragment_promises::Transfer,
     rows: usize,
     columns: usize,
     k: usize,
 ) -> usize
-    ensures { λ r. ⌜ Start rows columns k r (now (t .exit)) ⌝ }
+    ensures { λ r. ⌜ Start rows columns k r (now (transfer .exit)) ⌝ }
 {
     fragments::start_at(
-        &mut t.rows,
-        &mut t.columns,
-        &mut t.k,
-        &mut t.taken,
-        &mut t.bytes,
+        &mut transfer.rows,
+        &mut transfer.columns,
+        &mut transfer.k,
+        &mut transfer.taken,
+        &mut transfer.bytes,
         rows,
         columns,
         k,
@@ -116,40 +116,47 @@ pub extern "C" fn ernavluq_transfer_start_r2(
 
 #[no_mangle]
 pub extern "C" fn ernavluq_transfer_lump_r2(
-    t: &mut fragment_promises::Transfer,
+    transfer: &mut fragment_promises::Transfer,
     bytes: &[u8],
 ) -> usize
-    ensures { λ r. ⌜ Lump (now (t .entry)) (now (bytes .entry)) r (now (t .exit)) ⌝ }
+    ensures { λ r. ⌜ Lump (now (transfer .entry)) (now (bytes .entry)) r (now (transfer .exit)) ⌝ }
 {
-    let rows = t.rows;
-    let columns = t.columns;
-    let k = t.k;
-    fragments::lump_at(&mut t.taken, &mut t.bytes, rows, columns, k, bytes)
+    let rows = transfer.rows;
+    let columns = transfer.columns;
+    let k = transfer.k;
+    fragments::lump_at(
+        &mut transfer.taken,
+        &mut transfer.bytes,
+        rows,
+        columns,
+        k,
+        bytes,
+    )
 }
 
 #[no_mangle]
 pub extern "C" fn ernavluq_transfer_finish_r2(
-    t: &fragment_promises::Transfer,
+    transfer: &fragment_promises::Transfer,
     out: &mut [u64],
 ) -> grid_promises::ReadAnswer
-    ensures { λ r. ⌜ Finishes (now (t .entry)) (now (out .entry)) r (now (out .exit)) ⌝ }
+    ensures { λ r. ⌜ Finishes (now (transfer .entry)) (now (out .entry)) r (now (out .exit)) ⌝ }
 {
-    let rows = t.rows;
-    let columns = t.columns;
-    let k = t.k;
-    let taken = t.taken;
-    fragments::finish_at(&t.bytes, rows, columns, k, taken, out)
+    let rows = transfer.rows;
+    let columns = transfer.columns;
+    let k = transfer.k;
+    let taken = transfer.taken;
+    fragments::finish_at(&transfer.bytes, rows, columns, k, taken, out)
 }
 
 #[no_mangle]
 pub extern "C" fn ernavluq_transfer_missing_r2(
-    t: &fragment_promises::Transfer,
+    transfer: &fragment_promises::Transfer,
 ) -> fragment_promises::MissingAnswer
-    ensures { λ r. ⌜ Misses (now (t .entry)) r ⌝ }
+    ensures { λ r. ⌜ Misses (now (transfer .entry)) r ⌝ }
 {
-    let rows = t.rows;
-    let columns = t.columns;
-    let k = t.k;
-    let taken = t.taken;
+    let rows = transfer.rows;
+    let columns = transfer.columns;
+    let k = transfer.k;
+    let taken = transfer.taken;
     fragments::missing(rows, columns, k, taken)
 }
