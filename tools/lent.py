@@ -17,7 +17,7 @@ N       how many plain parameters follow, which it passes on last
     fn c(l1: &mut T1, .., n1: .., s: &[E], y1: P1, ..) -> U  ensures { λ r. ⌜ Q (now (l1 .entry)) .. n1 .. (now (s .entry)) y1 .. r (now (l1 .exit)) .. ⌝ }
 
 With shr P and Q have no exits of t and of its fields; with a `&mut [E]` they have (now (s .exit)) last. Neither function has a `requires`.
-The lemma is over any P and Q of which Q of the record's fields gives P of the record.
+The lemma is over any P and Q such that, for a record that is held, Q of its fields gives P of it.
 """
 import re
 import sys
@@ -67,7 +67,7 @@ def item(i): return '.1 ' * i + '.0'
 
 
 def nest(xs, start, end):
-    """x (y (z end)), each with its own opening text"""
+    """(start x (start y end))"""
     text = end
     for x in reversed(list(xs)):
         text = f'({start} {x} {text})'
@@ -211,8 +211,8 @@ for k, x in enumerate(lent, 1):
             f'{x}-long h was = is{k} h was .1 .0 .1')
 
 if mutable:
-    made = [(as_list(x, f'sym (map-id {after[x]})', f'{after[x]}-is') if is_array(x) else f'{after[x]}-is') if x in after else f'o {item(place_of(x))}'
-            for x in names]
+    lies = {x: f'{z}-lies' if is_array(x) else f'{z}-is' for x, z in after.items()}
+    made = [lies.get(x, f'o {item(place_of(x))}') for x in names]
     put('-- the record with other fields')
     gap(f'abbrev pub with′ : {S} → {arrow(denot(x) for x in lent)} → {S}',
         f'with′ h {zs} = record {{ ' + '; '.join(f'{x} = {after.get(x, f"h .{x}")}' for x in names) + ' }')
@@ -220,6 +220,7 @@ if mutable:
     gap(f'with-is : (h : {S}) {ends_bound} → {HELD} → {arrow(is_field(x, after[x]) for x in lent)} → Is T.the-row {with_after} (vals {with_after})',
         f'with-is h {zs} was {" ".join(f"{z}-is" for z in after.values())} =',
         '    let o = LL.owed T.the-type T′.the-laws h _ was in',
+        *[f'    let {z}-lies = {as_list(x, f"sym (map-id {z})", f"{z}-is")} in' for x, z in after.items() if is_array(x)],
         f'    let made : Is T.the-row {with_after} (LL.vals T.the-type T′.the-laws {with_after}) =',
         f'    LL.owes T.the-type T′.the-laws {with_after} {tuple_of(made)} in',
         f'    subst (λ (vs : List Val). Is T.the-row {with_after} vs) (T′.lowers .val-is {with_after} _ made) made')
@@ -270,20 +271,21 @@ if slice_mut:  # a `&mut` slice is lent on by a reborrow
 passed = [*range(first_lent, after_lent), *range(first_read, first_lent)] + [after_lent + 1 if slice_mut else 2] * sliced + [1 + sliced + i for i in plain]
 steps += [f'call callee ({cons(map(copied, passed))}) (place 0 [])']
 put('  -- the MIR', '  abbrev pub function : Fn', '  function = record {', f'    lifetimes = {1 + sliced};', '    outlives = [];',
-    f'    params = {1 + sliced + len(plain)};', f'    locals = {cons(f"local {t} valueLocal" for t in kinds)};',
-    f'    body = {nest([f"({s})" for s in steps], "seq", "return")[1:-1]};', '  }', '')
+    f'    params = {1 + sliced + len(plain)};', '    locals =', *[f'        local {t} valueLocal ∷' for t in kinds], '        [];',
+    '    body =', *[f'        seq ({x}) (' for x in steps[:-1]], f'        seq ({steps[-1]}) return{")" * (len(steps) - 1)};', '  }', '')
 
 
-def ended(lifetimes, rows, count):
-    signature = f'record {{ lifetimes = {lifetimes}; outlives = []; params = {cons(rows)}; result = plain (λ _. U .row) }}'
-    return f'record {{ signature = {signature}; kept = {tuple_of(["yes"] * count)} }}'
+def ended(what, lifetimes, rows):
+    gap(f'  abbrev pub {what} : Ended', f'  {what} = record {{', '    signature = record {', f'      lifetimes = {lifetimes};', '      outlives = [];',
+        '      params =', *[f'          {x} ∷' for x in rows], '          [];', '      result = plain (λ _. U .row);', '    };',
+        f'    kept = {tuple_of(["yes"] * len(rows))};', '  }')
 
 
 core_rows = [f'{ref} ({k} ∷ []) tt (plain (λ _. {row(x)}))' for k, x in enumerate(lent)] + [f'plain (λ _. {row(x)})' for x in read]
 core_rows += [f'{slice_of} ({len(lent)} ∷ []) tt (plain (λ _. E .row))'] * sliced + plain_rows
 thin_rows = [f'{ref} (0 ∷ []) tt (plain (λ _. T.the-row))'] + [f'{slice_of} (1 ∷ []) tt (plain (λ _. E .row))'] * sliced + plain_rows
-gap('  abbrev pub core : Ended', f'  core = {ended(len(lent) + sliced, core_rows, len(core_rows))}')
-gap('  abbrev pub thin : Ended', f'  thin = {ended(1 + sliced, thin_rows, len(thin_rows))}')
+ended('core', len(lent) + sliced, core_rows)
+ended('thin', 1 + sliced, thin_rows)
 
 before_slice = len(lent) + len(read)
 core_says = [f'(now (a {item(k)}))' for k in range(len(lent))] + [f'(a {item(i)})' for i in range(len(lent), before_slice)]
@@ -295,7 +297,8 @@ thin_says += ['(now (e .0))'] * mutable + ['(now (e .1 .0))'] * slice_mut
 
 def clauses(what, P, says):
     gap(f'  abbrev pub {what}-clauses : {{M : Type 1}} (𝓤 : URA M) → Clauses 𝓤 {what}',
-        f'  {what}-clauses 𝓤 κs a = record {{ ghost = Unit {{0}}; requires = λ _. emp 𝓤; ensures = λ _ r e. fact 𝓤 ({P} {" ".join(says)}) }}')
+        f'  {what}-clauses 𝓤 κs a = record {{', '    ghost = Unit {0};', '    requires = λ _. emp 𝓤;',
+        f'    ensures = λ _ r e. fact 𝓤 ({P} {" ".join(says)});', '  }')
 
 
 clauses('core', 'Q', core_says)
@@ -623,9 +626,12 @@ put('    pub meets : (𝓣 : Tables 𝓤 H) → Triple 𝓤 (𝓣 .C callee) (Co
 
 def wrapped(line, width=150):
     """the line in parts of at most this width: after a `$` if it can be, else before a bracket or at a space"""
+    if line.startswith(('--', 'use ')):
+        width = len(line)
+    else:
+        line = re.sub('(?<=[^ ]) +', ' ', line.rstrip())
     indent = re.match(' *', line).group()
-    line = indent + re.sub(' +', ' ', line.strip())
-    while len(line) > width and not line.startswith(('--', 'use ')):
+    while len(line) > width:
         ends = [line.rfind(' $ ', 0, width) + 2, line.rfind(' (', 0, width), line.rfind(' ', 0, width)]
         cut = next(end for end in ends if end > width // 2)
         yield line[:cut]

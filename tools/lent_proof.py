@@ -35,7 +35,7 @@ uses += [f'{here}.Param.{{{", ".join(kinds)}}}', f'{here}.{lemma}.{{meets}}', f'
 uses = [f'mir.Syntax.{{{", ".join(widths)}}}'] * bool(widths) + ['contract.Running.{givenOf, tables, tablesOf}', 'denote.Triple.Spec.{tripleOf}',
         'denote.Triple.Table.{entered, cited}'] + uses
 
-print(f'-- Made by tools/make.sh. `{fn}` meets its contract: it has the form of `{lemma}.antt`, and its callee is `{core}`. Assumes nothing.')
+print(f'-- Made by tools/make.sh. `{fn}` meets its contract: it has the form of `{lemma}.antt`, and calls `{core}`. Assumes nothing.')
 print(*[f'use {use}' for use in uses], sep='\n')
 print(f'''
 pub {F}-spec : {{M : Type 1}} → stated.statement M

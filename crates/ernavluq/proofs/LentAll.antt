@@ -1,7 +1,7 @@
 -- Made by tools/make.sh: tools/lent.py ernavluq fragment_promises.Transfer mut rows,columns,k,taken,bytes - - 3.
 -- One walk for every function of this form, whatever the types of the last parameters, the result, the callee and what it ensures:
--- fn g(t: &mut Transfer, y1: P1, y2: P2, y3: P3) -> U
--- { c(&mut t.rows, &mut t.columns, &mut t.k, &mut t.taken, &mut t.bytes, y1, y2, y3) }
+--     fn g(t: &mut Transfer, y1: P1, y2: P2, y3: P3) -> U
+--     { c(&mut t.rows, &mut t.columns, &mut t.k, &mut t.taken, &mut t.bytes, y1, y2, y3) }
 -- The borrow is opened, and the record's cell is cut into its fields'. Those that are lent go out for lifetimes that are made for the call,
 -- and come back (`LentField.antt`). Then the record's cell is put together again, and the borrow is closed. Assumes nothing.
 use mathlib.Core.Path.{_≡_, refl, sym, subst}
@@ -84,24 +84,9 @@ with-is : (h : Transfer) (z1 : ℕ) (z2 : ℕ) (z3 : ℕ) (z4 : ℕ) (z5 : List 
     (with′ h z1 z2 z3 z4 z5) (vals (with′ h z1 z2 z3 z4 z5))
 with-is h z1 z2 z3 z4 z5 was z1-is z2-is z3-is z4-is z5-is =
     let o = LL.owed T.the-type T′.the-laws h _ was in
+    let z5-lies = subst (λ (l : List ℕ). Is ((uints w8 560) .row) l (((uints w8 560) .val l) ∷ [])) (sym (map-id z5)) (z5-is) in
     let made : Is T.the-row (with′ h z1 z2 z3 z4 z5) (LL.vals T.the-type T′.the-laws (with′ h z1 z2 z3 z4 z5)) =
-    LL.owes T.the-type T′.the-laws (with′ h z1 z2 z3 z4 z5) (
-      z1-is,
-      (
-        z2-is,
-        (
-          z3-is,
-          (
-            z4-is,
-            (
-              subst (λ (l : List ℕ). Is ((uints w8 560) .row) l
-                  (((uints w8 560) .val l) ∷ [])) (sym (map-id z5)) (z5-is),
-              tt,
-            ),
-          ),
-        ),
-      ),
-    ) in
+    LL.owes T.the-type T′.the-laws (with′ h z1 z2 z3 z4 z5) (z1-is, (z2-is, (z3-is, (z4-is, (z5-lies, tt))))) in
     subst (λ (vs : List Val). Is T.the-row (with′ h z1 z2 z3 z4 z5) vs) (T′.lowers .val-is (with′ h z1 z2 z3 z4 z5) _ made) made
 
 module _ (P1 P2 P3 : Param) (U : Param)
@@ -116,15 +101,26 @@ module _ (P1 P2 P3 : Param) (U : Param)
     lifetimes = 1;
     outlives = [];
     params = 4;
-    locals = local (U .ty) valueLocal ∷ local (tyRef (named 0) mut (pointee (T.the-row .written))) valueLocal ∷ local (P1 .ty) valueLocal ∷ local
-        (P2 .ty) valueLocal ∷ local (P3 .ty) valueLocal ∷ local (tyRef erased mut ((uint w64) .ty)) valueLocal ∷ local (tyRef erased mut
-        ((uint w64) .ty)) valueLocal ∷ local (tyRef erased mut ((uint w64) .ty)) valueLocal ∷ local (tyRef erased mut
-        ((uint w64) .ty)) valueLocal ∷ local (tyRef erased mut ((uints w8 560) .ty)) valueLocal ∷ [];
-    body = seq (assign (place 5 []) (addrOf (place 1 (deref T′.mir ∷ field 0 ∷ [])))) (seq (assign (place 6 []) (addrOf (place 1
-        (deref T′.mir ∷ field 1 ∷ [])))) (seq (assign (place 7 []) (addrOf (place 1 (deref T′.mir ∷ field 2 ∷ [])))) (seq (assign (place 8 [])
-        (addrOf (place 1 (deref T′.mir ∷ field 3 ∷ [])))) (seq (assign (place 9 []) (addrOf (place 1 (deref T′.mir ∷ field 4 ∷ [])))) (seq
-        (call callee (copy (place 5 []) ∷ copy (place 6 []) ∷ copy (place 7 []) ∷ copy (place 8 []) ∷ copy (place 9 []) ∷ copy (place 2 []) ∷ copy
-        (place 3 []) ∷ copy (place 4 []) ∷ []) (place 0 [])) return)))));
+    locals =
+        local (U .ty) valueLocal ∷
+        local (tyRef (named 0) mut (pointee (T.the-row .written))) valueLocal ∷
+        local (P1 .ty) valueLocal ∷
+        local (P2 .ty) valueLocal ∷
+        local (P3 .ty) valueLocal ∷
+        local (tyRef erased mut ((uint w64) .ty)) valueLocal ∷
+        local (tyRef erased mut ((uint w64) .ty)) valueLocal ∷
+        local (tyRef erased mut ((uint w64) .ty)) valueLocal ∷
+        local (tyRef erased mut ((uint w64) .ty)) valueLocal ∷
+        local (tyRef erased mut ((uints w8 560) .ty)) valueLocal ∷
+        [];
+    body =
+        seq (assign (place 5 []) (addrOf (place 1 (deref T′.mir ∷ field 0 ∷ [])))) (
+        seq (assign (place 6 []) (addrOf (place 1 (deref T′.mir ∷ field 1 ∷ [])))) (
+        seq (assign (place 7 []) (addrOf (place 1 (deref T′.mir ∷ field 2 ∷ [])))) (
+        seq (assign (place 8 []) (addrOf (place 1 (deref T′.mir ∷ field 3 ∷ [])))) (
+        seq (assign (place 9 []) (addrOf (place 1 (deref T′.mir ∷ field 4 ∷ [])))) (
+        seq (call callee (copy (place 5 []) ∷ copy (place 6 []) ∷ copy (place 7 []) ∷ copy (place 8 []) ∷ copy (place 9 []) ∷ copy
+        (place 2 []) ∷ copy (place 3 []) ∷ copy (place 4 []) ∷ []) (place 0 [])) return)))));
   }
 
   abbrev pub core : Ended
@@ -132,10 +128,16 @@ module _ (P1 P2 P3 : Param) (U : Param)
     signature = record {
       lifetimes = 5;
       outlives = [];
-      params = mutRefTo (0 ∷ []) tt (plain (λ _. ((uint w64) .row))) ∷ mutRefTo
-          (1 ∷ []) tt (plain (λ _. ((uint w64) .row))) ∷ mutRefTo (2 ∷ []) tt (plain (λ _. ((uint w64) .row))) ∷ mutRefTo (3 ∷ []) tt (plain (λ _.
-          ((uint w64) .row))) ∷ mutRefTo (4 ∷ []) tt (plain (λ _. ((uints w8 560) .row))) ∷ plain (λ _. P1 .row) ∷ plain (λ _. P2 .row) ∷ plain
-          (λ _. P3 .row) ∷ [];
+      params =
+          mutRefTo (0 ∷ []) tt (plain (λ _. ((uint w64) .row))) ∷
+          mutRefTo (1 ∷ []) tt (plain (λ _. ((uint w64) .row))) ∷
+          mutRefTo (2 ∷ []) tt (plain (λ _. ((uint w64) .row))) ∷
+          mutRefTo (3 ∷ []) tt (plain (λ _. ((uint w64) .row))) ∷
+          mutRefTo (4 ∷ []) tt (plain (λ _. ((uints w8 560) .row))) ∷
+          plain (λ _. P1 .row) ∷
+          plain (λ _. P2 .row) ∷
+          plain (λ _. P3 .row) ∷
+          [];
       result = plain (λ _. U .row);
     };
     kept = (yes, (yes, (yes, (yes, (yes, (yes, (yes, (yes, tt))))))));
@@ -146,8 +148,12 @@ module _ (P1 P2 P3 : Param) (U : Param)
     signature = record {
       lifetimes = 1;
       outlives = [];
-      params = mutRefTo (0 ∷ []) tt (plain (λ _. T.the-row)) ∷ plain
-          (λ _. P1 .row) ∷ plain (λ _. P2 .row) ∷ plain (λ _. P3 .row) ∷ [];
+      params =
+          mutRefTo (0 ∷ []) tt (plain (λ _. T.the-row)) ∷
+          plain (λ _. P1 .row) ∷
+          plain (λ _. P2 .row) ∷
+          plain (λ _. P3 .row) ∷
+          [];
       result = plain (λ _. U .row);
     };
     kept = (yes, (yes, (yes, (yes, tt))));
@@ -157,17 +163,16 @@ module _ (P1 P2 P3 : Param) (U : Param)
   core-clauses 𝓤 κs a = record {
     ghost = Unit {0};
     requires = λ _. emp 𝓤;
-    ensures = λ _ r e. fact 𝓤 (Q (now (a .0)) (now (a .1 .0)) (now
-        (a .1 .1 .0)) (now (a .1 .1 .1 .0)) (now (a .1 .1 .1 .1 .0)) (a .1 .1 .1 .1 .1 .0) (a .1 .1 .1 .1 .1 .1 .0) (a .1 .1 .1 .1 .1 .1 .1 .0) r (now
-        (e .0)) (now (e .1 .0)) (now (e .1 .1 .0)) (now (e .1 .1 .1 .0)) (now (e .1 .1 .1 .1 .0)));
+    ensures = λ _ r e. fact 𝓤 (Q (now (a .0)) (now (a .1 .0)) (now (a .1 .1 .0)) (now (a .1 .1 .1 .0)) (now (a .1 .1 .1 .1 .0))
+        (a .1 .1 .1 .1 .1 .0) (a .1 .1 .1 .1 .1 .1 .0) (a .1 .1 .1 .1 .1 .1 .1 .0) r (now (e .0)) (now (e .1 .0)) (now (e .1 .1 .0)) (now
+        (e .1 .1 .1 .0)) (now (e .1 .1 .1 .1 .0)));
   }
 
   abbrev pub thin-clauses : {M : Type 1} (𝓤 : URA M) → Clauses 𝓤 thin
   thin-clauses 𝓤 κs a = record {
     ghost = Unit {0};
     requires = λ _. emp 𝓤;
-    ensures = λ _ r e. fact 𝓤 (P (now (a .0)) (a .1 .0) (a .1 .1 .0)
-        (a .1 .1 .1 .0) r (now (e .0)));
+    ensures = λ _ r e. fact 𝓤 (P (now (a .0)) (a .1 .0) (a .1 .1 .0) (a .1 .1 .1 .0) r (now (e .0)));
   }
 
   abbrev stayed : Stays (thin .signature .params) (thin .kept)

@@ -1,7 +1,7 @@
 -- Made by tools/make.sh: tools/lent.py ernavluq fragment_promises.Transfer mut taken,bytes rows,columns,k imm 0.
 -- One walk for every function of this form, whatever the types of the last parameters, the result, the callee and what it ensures:
--- fn g(t: &mut Transfer, s: &[E]) -> U
--- { let rows = t.rows; let columns = t.columns; let k = t.k; c(&mut t.taken, &mut t.bytes, rows, columns, k, s) }
+--     fn g(t: &mut Transfer, s: &[E]) -> U
+--     { let rows = t.rows; let columns = t.columns; let k = t.k; c(&mut t.taken, &mut t.bytes, rows, columns, k, s) }
 -- The borrow is opened, and the record's cell is cut into its fields'. Those that are lent go out for lifetimes that are made for the call,
 -- and come back (`LentField.antt`). Then the record's cell is put together again, and the borrow is closed. Assumes nothing.
 use mathlib.Core.Path.{_≡_, refl, sym, subst}
@@ -74,24 +74,9 @@ with-is : (h : Transfer) (z1 : ℕ) (z2 : List ℕ) → Is T.the-row h (vals h) 
     ((uints w8 560) .row) z2 (((uints w8 560) .val z2) ∷ []) → Is T.the-row (with′ h z1 z2) (vals (with′ h z1 z2))
 with-is h z1 z2 was z1-is z2-is =
     let o = LL.owed T.the-type T′.the-laws h _ was in
+    let z2-lies = subst (λ (l : List ℕ). Is ((uints w8 560) .row) l (((uints w8 560) .val l) ∷ [])) (sym (map-id z2)) (z2-is) in
     let made : Is T.the-row (with′ h z1 z2) (LL.vals T.the-type T′.the-laws (with′ h z1 z2)) =
-    LL.owes T.the-type T′.the-laws (with′ h z1 z2) (
-      o .0,
-      (
-        o .1 .0,
-        (
-          o .1 .1 .0,
-          (
-            z1-is,
-            (
-              subst (λ (l : List ℕ). Is ((uints w8 560) .row) l
-                  (((uints w8 560) .val l) ∷ [])) (sym (map-id z2)) (z2-is),
-              tt,
-            ),
-          ),
-        ),
-      ),
-    ) in
+    LL.owes T.the-type T′.the-laws (with′ h z1 z2) (o .0, (o .1 .0, (o .1 .1 .0, (z1-is, (z2-lies, tt))))) in
     subst (λ (vs : List Val). Is T.the-row (with′ h z1 z2) vs) (T′.lowers .val-is (with′ h z1 z2) _ made) made
 
 module _ (E : Param) (U : Param)
@@ -105,14 +90,23 @@ module _ (E : Param) (U : Param)
     lifetimes = 2;
     outlives = [];
     params = 2;
-    locals = local (U .ty) valueLocal ∷ local (tyRef (named 0) mut (pointee (T.the-row .written))) valueLocal ∷ local (sliceTy (tyRef (named 1) imm
-        (pointee (E .row .written)))) valueLocal ∷ local ((uint w64) .ty) valueLocal ∷ local ((uint w64) .ty) valueLocal ∷ local
-        ((uint w64) .ty) valueLocal ∷ local (tyRef erased mut ((uint w64) .ty)) valueLocal ∷ local (tyRef erased mut
-        ((uints w8 560) .ty)) valueLocal ∷ [];
-    body = seq (assign (place 3 []) (rvOpd (copy (place 1 (deref T′.mir ∷ field 0 ∷ []))))) (seq (assign (place 4 []) (rvOpd (copy (place 1
-        (deref T′.mir ∷ field 1 ∷ []))))) (seq (assign (place 5 []) (rvOpd (copy (place 1 (deref T′.mir ∷ field 2 ∷ []))))) (seq (assign
-        (place 6 []) (addrOf (place 1 (deref T′.mir ∷ field 3 ∷ [])))) (seq (assign (place 7 []) (addrOf (place 1 (deref T′.mir ∷ field 4 ∷ []))))
-        (seq (call callee (copy (place 6 []) ∷ copy (place 7 []) ∷ copy (place 3 []) ∷ copy (place 4 []) ∷ copy (place 5 []) ∷ copy
+    locals =
+        local (U .ty) valueLocal ∷
+        local (tyRef (named 0) mut (pointee (T.the-row .written))) valueLocal ∷
+        local (sliceTy (tyRef (named 1) imm (pointee (E .row .written)))) valueLocal ∷
+        local ((uint w64) .ty) valueLocal ∷
+        local ((uint w64) .ty) valueLocal ∷
+        local ((uint w64) .ty) valueLocal ∷
+        local (tyRef erased mut ((uint w64) .ty)) valueLocal ∷
+        local (tyRef erased mut ((uints w8 560) .ty)) valueLocal ∷
+        [];
+    body =
+        seq (assign (place 3 []) (rvOpd (copy (place 1 (deref T′.mir ∷ field 0 ∷ []))))) (
+        seq (assign (place 4 []) (rvOpd (copy (place 1 (deref T′.mir ∷ field 1 ∷ []))))) (
+        seq (assign (place 5 []) (rvOpd (copy (place 1 (deref T′.mir ∷ field 2 ∷ []))))) (
+        seq (assign (place 6 []) (addrOf (place 1 (deref T′.mir ∷ field 3 ∷ [])))) (
+        seq (assign (place 7 []) (addrOf (place 1 (deref T′.mir ∷ field 4 ∷ [])))) (
+        seq (call callee (copy (place 6 []) ∷ copy (place 7 []) ∷ copy (place 3 []) ∷ copy (place 4 []) ∷ copy (place 5 []) ∷ copy
         (place 2 []) ∷ []) (place 0 [])) return)))));
   }
 
@@ -121,27 +115,17 @@ module _ (E : Param) (U : Param)
     signature = record {
       lifetimes = 3;
       outlives = [];
-      params = mutRefTo (0 ∷ []) tt (plain (λ _. ((uint w64) .row))) ∷ mutRefTo
-          (1 ∷ []) tt (plain (λ _. ((uints w8 560) .row))) ∷ plain (λ _. ((uint w64) .row)) ∷ plain (λ _. ((uint w64) .row)) ∷ plain (λ _.
-          ((uint w64) .row)) ∷ shrSliceOf (2 ∷ []) tt (plain (λ _. E .row)) ∷ [];
+      params =
+          mutRefTo (0 ∷ []) tt (plain (λ _. ((uint w64) .row))) ∷
+          mutRefTo (1 ∷ []) tt (plain (λ _. ((uints w8 560) .row))) ∷
+          plain (λ _. ((uint w64) .row)) ∷
+          plain (λ _. ((uint w64) .row)) ∷
+          plain (λ _. ((uint w64) .row)) ∷
+          shrSliceOf (2 ∷ []) tt (plain (λ _. E .row)) ∷
+          [];
       result = plain (λ _. U .row);
     };
-    kept = (
-      yes,
-      (
-        yes,
-        (
-          yes,
-          (
-            yes,
-            (
-              yes,
-              (yes, tt),
-            ),
-          ),
-        ),
-      ),
-    );
+    kept = (yes, (yes, (yes, (yes, (yes, (yes, tt))))));
   }
 
   abbrev pub thin : Ended
@@ -149,8 +133,10 @@ module _ (E : Param) (U : Param)
     signature = record {
       lifetimes = 2;
       outlives = [];
-      params = mutRefTo (0 ∷ []) tt (plain (λ _. T.the-row)) ∷ shrSliceOf (1 ∷ []) tt
-          (plain (λ _. E .row)) ∷ [];
+      params =
+          mutRefTo (0 ∷ []) tt (plain (λ _. T.the-row)) ∷
+          shrSliceOf (1 ∷ []) tt (plain (λ _. E .row)) ∷
+          [];
       result = plain (λ _. U .row);
     };
     kept = (yes, (yes, tt));
@@ -160,12 +146,16 @@ module _ (E : Param) (U : Param)
   core-clauses 𝓤 κs a = record {
     ghost = Unit {0};
     requires = λ _. emp 𝓤;
-    ensures = λ _ r e. fact 𝓤 (Q (now (a .0)) (now (a .1 .0)) (a .1 .1 .0)
-        (a .1 .1 .1 .0) (a .1 .1 .1 .1 .0) (now (a .1 .1 .1 .1 .1 .0)) r (now (e .0)) (now (e .1 .0)));
+    ensures = λ _ r e. fact 𝓤 (Q (now (a .0)) (now (a .1 .0)) (a .1 .1 .0) (a .1 .1 .1 .0) (a .1 .1 .1 .1 .0) (now (a .1 .1 .1 .1 .1 .0)) r (now
+        (e .0)) (now (e .1 .0)));
   }
 
   abbrev pub thin-clauses : {M : Type 1} (𝓤 : URA M) → Clauses 𝓤 thin
-  thin-clauses 𝓤 κs a = record { ghost = Unit {0}; requires = λ _. emp 𝓤; ensures = λ _ r e. fact 𝓤 (P (now (a .0)) (now (a .1 .0)) r (now (e .0))) }
+  thin-clauses 𝓤 κs a = record {
+    ghost = Unit {0};
+    requires = λ _. emp 𝓤;
+    ensures = λ _ r e. fact 𝓤 (P (now (a .0)) (now (a .1 .0)) r (now (e .0)));
+  }
 
   abbrev stayed : Stays (thin .signature .params) (thin .kept)
   stayed = (stay-ref (0 ∷ []) tt (plain (λ _. T.the-row)), (stay-none-slice (1 ∷ []) tt (plain (λ _. E .row)) yes, tt))

@@ -1,7 +1,7 @@
 -- Made by tools/make.sh: tools/lent.py ernavluq fragment_promises.Transfer shr bytes rows,columns,k,taken mut 0.
 -- One walk for every function of this form, whatever the types of the last parameters, the result, the callee and what it ensures:
--- fn g(t: &Transfer, s: &mut [E]) -> U
--- { let rows = t.rows; let columns = t.columns; let k = t.k; let taken = t.taken; c(&t.bytes, rows, columns, k, taken, s) }
+--     fn g(t: &Transfer, s: &mut [E]) -> U
+--     { let rows = t.rows; let columns = t.columns; let k = t.k; let taken = t.taken; c(&t.bytes, rows, columns, k, taken, s) }
 -- The borrow is looked into, the numbers are read, and it is shut. A `&` to a field is taken out of the `&` to the record, at its own
 -- lifetime, so that nothing has to come back. Assumes nothing.
 use mathlib.Core.Path.{_≡_, refl, sym, subst}
@@ -82,16 +82,28 @@ module _ (E : Param) (U : Param)
     lifetimes = 2;
     outlives = [];
     params = 2;
-    locals = local (U .ty) valueLocal ∷ local (tyRef (named 0) imm (pointee (T.the-row .written))) valueLocal ∷ local (sliceTy (tyRef (named 1) mut
-        (pointee (E .row .written)))) valueLocal ∷ local ((uint w64) .ty) valueLocal ∷ local ((uint w64) .ty) valueLocal ∷ local
-        ((uint w64) .ty) valueLocal ∷ local ((uint w64) .ty) valueLocal ∷ local (tyRef erased imm ((uints w8 560) .ty)) valueLocal ∷ local
-        (tyRef erased mut (pointee (E .row .written))) valueLocal ∷ local (sliceTy (tyRef erased mut (pointee (E .row .written)))) valueLocal ∷ [];
-    body = seq (assign (place 3 []) (rvOpd (copy (place 1 (deref T′.mir ∷ field 0 ∷ []))))) (seq (assign (place 4 []) (rvOpd (copy (place 1
-        (deref T′.mir ∷ field 1 ∷ []))))) (seq (assign (place 5 []) (rvOpd (copy (place 1 (deref T′.mir ∷ field 2 ∷ []))))) (seq (assign
-        (place 6 []) (rvOpd (copy (place 1 (deref T′.mir ∷ field 3 ∷ []))))) (seq (assign (place 7 []) (addrOf (place 1
-        (deref T′.mir ∷ field 4 ∷ [])))) (seq (assign (place 8 []) (addrOf (place 2 (field 0 ∷ deref (E .ty) ∷ [])))) (seq (assign (place 9 [])
-        (aggregate (copy (place 8 []) ∷ copy (place 2 (field 1 ∷ [])) ∷ []))) (seq (call callee (copy (place 7 []) ∷ copy (place 3 []) ∷ copy
-        (place 4 []) ∷ copy (place 5 []) ∷ copy (place 6 []) ∷ copy (place 9 []) ∷ []) (place 0 [])) return)))))));
+    locals =
+        local (U .ty) valueLocal ∷
+        local (tyRef (named 0) imm (pointee (T.the-row .written))) valueLocal ∷
+        local (sliceTy (tyRef (named 1) mut (pointee (E .row .written)))) valueLocal ∷
+        local ((uint w64) .ty) valueLocal ∷
+        local ((uint w64) .ty) valueLocal ∷
+        local ((uint w64) .ty) valueLocal ∷
+        local ((uint w64) .ty) valueLocal ∷
+        local (tyRef erased imm ((uints w8 560) .ty)) valueLocal ∷
+        local (tyRef erased mut (pointee (E .row .written))) valueLocal ∷
+        local (sliceTy (tyRef erased mut (pointee (E .row .written)))) valueLocal ∷
+        [];
+    body =
+        seq (assign (place 3 []) (rvOpd (copy (place 1 (deref T′.mir ∷ field 0 ∷ []))))) (
+        seq (assign (place 4 []) (rvOpd (copy (place 1 (deref T′.mir ∷ field 1 ∷ []))))) (
+        seq (assign (place 5 []) (rvOpd (copy (place 1 (deref T′.mir ∷ field 2 ∷ []))))) (
+        seq (assign (place 6 []) (rvOpd (copy (place 1 (deref T′.mir ∷ field 3 ∷ []))))) (
+        seq (assign (place 7 []) (addrOf (place 1 (deref T′.mir ∷ field 4 ∷ [])))) (
+        seq (assign (place 8 []) (addrOf (place 2 (field 0 ∷ deref (E .ty) ∷ [])))) (
+        seq (assign (place 9 []) (aggregate (copy (place 8 []) ∷ copy (place 2 (field 1 ∷ [])) ∷ []))) (
+        seq (call callee (copy (place 7 []) ∷ copy (place 3 []) ∷ copy (place 4 []) ∷ copy (place 5 []) ∷ copy (place 6 []) ∷ copy
+        (place 9 []) ∷ []) (place 0 [])) return)))))));
   }
 
   abbrev pub core : Ended
@@ -99,9 +111,14 @@ module _ (E : Param) (U : Param)
     signature = record {
       lifetimes = 2;
       outlives = [];
-      params = shrRefTo (0 ∷ []) tt (plain (λ _. ((uints w8 560) .row))) ∷ plain
-          (λ _. ((uint w64) .row)) ∷ plain (λ _. ((uint w64) .row)) ∷ plain (λ _. ((uint w64) .row)) ∷ plain (λ _. ((uint w64) .row)) ∷ mutSliceOf
-          (1 ∷ []) tt (plain (λ _. E .row)) ∷ [];
+      params =
+          shrRefTo (0 ∷ []) tt (plain (λ _. ((uints w8 560) .row))) ∷
+          plain (λ _. ((uint w64) .row)) ∷
+          plain (λ _. ((uint w64) .row)) ∷
+          plain (λ _. ((uint w64) .row)) ∷
+          plain (λ _. ((uint w64) .row)) ∷
+          mutSliceOf (1 ∷ []) tt (plain (λ _. E .row)) ∷
+          [];
       result = plain (λ _. U .row);
     };
     kept = (yes, (yes, (yes, (yes, (yes, (yes, tt))))));
@@ -112,8 +129,10 @@ module _ (E : Param) (U : Param)
     signature = record {
       lifetimes = 2;
       outlives = [];
-      params = shrRefTo (0 ∷ []) tt (plain (λ _. T.the-row)) ∷ mutSliceOf (1 ∷ []) tt
-          (plain (λ _. E .row)) ∷ [];
+      params =
+          shrRefTo (0 ∷ []) tt (plain (λ _. T.the-row)) ∷
+          mutSliceOf (1 ∷ []) tt (plain (λ _. E .row)) ∷
+          [];
       result = plain (λ _. U .row);
     };
     kept = (yes, (yes, tt));
@@ -123,16 +142,15 @@ module _ (E : Param) (U : Param)
   core-clauses 𝓤 κs a = record {
     ghost = Unit {0};
     requires = λ _. emp 𝓤;
-    ensures = λ _ r e. fact 𝓤 (Q (now (a .0)) (a .1 .0) (a .1 .1 .0)
-        (a .1 .1 .1 .0) (a .1 .1 .1 .1 .0) (now (a .1 .1 .1 .1 .1 .0)) r (now (e .1 .1 .1 .1 .1 .0)));
+    ensures = λ _ r e. fact 𝓤 (Q (now (a .0)) (a .1 .0) (a .1 .1 .0) (a .1 .1 .1 .0) (a .1 .1 .1 .1 .0) (now (a .1 .1 .1 .1 .1 .0)) r (now
+        (e .1 .1 .1 .1 .1 .0)));
   }
 
   abbrev pub thin-clauses : {M : Type 1} (𝓤 : URA M) → Clauses 𝓤 thin
   thin-clauses 𝓤 κs a = record {
     ghost = Unit {0};
     requires = λ _. emp 𝓤;
-    ensures = λ _ r e. fact 𝓤 (P (now (a .0)) (now (a .1 .0)) r (now
-        (e .1 .0)));
+    ensures = λ _ r e. fact 𝓤 (P (now (a .0)) (now (a .1 .0)) r (now (e .1 .0)));
   }
 
   abbrev stayed : Stays (thin .signature .params) (thin .kept)

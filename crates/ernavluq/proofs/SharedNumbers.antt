@@ -1,7 +1,7 @@
 -- Made by tools/make.sh: tools/lent.py ernavluq fragment_promises.Transfer shr - rows,columns,k,taken - 0.
 -- One walk for every function of this form, whatever the types of the last parameters, the result, the callee and what it ensures:
--- fn g(t: &Transfer) -> U
--- { let rows = t.rows; let columns = t.columns; let k = t.k; let taken = t.taken; c(rows, columns, k, taken) }
+--     fn g(t: &Transfer) -> U
+--     { let rows = t.rows; let columns = t.columns; let k = t.k; let taken = t.taken; c(rows, columns, k, taken) }
 -- The borrow is looked into, the numbers are read, and it is shut. A `&` to a field is taken out of the `&` to the record, at its own
 -- lifetime, so that nothing has to come back. Assumes nothing.
 use mathlib.Core.Path.{_≡_, refl, sym, subst}
@@ -60,12 +60,20 @@ module _ (U : Param)
     lifetimes = 1;
     outlives = [];
     params = 1;
-    locals = local (U .ty) valueLocal ∷ local (tyRef (named 0) imm (pointee (T.the-row .written))) valueLocal ∷ local
-        ((uint w64) .ty) valueLocal ∷ local ((uint w64) .ty) valueLocal ∷ local ((uint w64) .ty) valueLocal ∷ local ((uint w64) .ty) valueLocal ∷ [];
-    body = seq (assign (place 2 []) (rvOpd (copy (place 1 (deref T′.mir ∷ field 0 ∷ []))))) (seq (assign (place 3 []) (rvOpd (copy (place 1
-        (deref T′.mir ∷ field 1 ∷ []))))) (seq (assign (place 4 []) (rvOpd (copy (place 1 (deref T′.mir ∷ field 2 ∷ []))))) (seq (assign
-        (place 5 []) (rvOpd (copy (place 1 (deref T′.mir ∷ field 3 ∷ []))))) (seq (call callee (copy (place 2 []) ∷ copy (place 3 []) ∷ copy
-        (place 4 []) ∷ copy (place 5 []) ∷ []) (place 0 [])) return))));
+    locals =
+        local (U .ty) valueLocal ∷
+        local (tyRef (named 0) imm (pointee (T.the-row .written))) valueLocal ∷
+        local ((uint w64) .ty) valueLocal ∷
+        local ((uint w64) .ty) valueLocal ∷
+        local ((uint w64) .ty) valueLocal ∷
+        local ((uint w64) .ty) valueLocal ∷
+        [];
+    body =
+        seq (assign (place 2 []) (rvOpd (copy (place 1 (deref T′.mir ∷ field 0 ∷ []))))) (
+        seq (assign (place 3 []) (rvOpd (copy (place 1 (deref T′.mir ∷ field 1 ∷ []))))) (
+        seq (assign (place 4 []) (rvOpd (copy (place 1 (deref T′.mir ∷ field 2 ∷ []))))) (
+        seq (assign (place 5 []) (rvOpd (copy (place 1 (deref T′.mir ∷ field 3 ∷ []))))) (
+        seq (call callee (copy (place 2 []) ∷ copy (place 3 []) ∷ copy (place 4 []) ∷ copy (place 5 []) ∷ []) (place 0 [])) return))));
   }
 
   abbrev pub core : Ended
@@ -73,17 +81,15 @@ module _ (U : Param)
     signature = record {
       lifetimes = 0;
       outlives = [];
-      params = plain (λ _. ((uint w64) .row)) ∷ plain (λ _.
-          ((uint w64) .row)) ∷ plain (λ _. ((uint w64) .row)) ∷ plain (λ _. ((uint w64) .row)) ∷ [];
+      params =
+          plain (λ _. ((uint w64) .row)) ∷
+          plain (λ _. ((uint w64) .row)) ∷
+          plain (λ _. ((uint w64) .row)) ∷
+          plain (λ _. ((uint w64) .row)) ∷
+          [];
       result = plain (λ _. U .row);
     };
-    kept = (
-      yes,
-      (
-        yes,
-        (yes, (yes, tt)),
-      ),
-    );
+    kept = (yes, (yes, (yes, (yes, tt))));
   }
 
   abbrev pub thin : Ended
@@ -91,9 +97,10 @@ module _ (U : Param)
     signature = record {
       lifetimes = 1;
       outlives = [];
-      params = shrRefTo (0 ∷ []) tt (plain (λ _. T.the-row)) ∷ [];
-      result = plain
-          (λ _. U .row);
+      params =
+          shrRefTo (0 ∷ []) tt (plain (λ _. T.the-row)) ∷
+          [];
+      result = plain (λ _. U .row);
     };
     kept = (yes, tt);
   }
@@ -102,12 +109,15 @@ module _ (U : Param)
   core-clauses 𝓤 κs a = record {
     ghost = Unit {0};
     requires = λ _. emp 𝓤;
-    ensures = λ _ r e. fact 𝓤 (Q (a .0) (a .1 .0) (a .1 .1 .0)
-        (a .1 .1 .1 .0) r);
+    ensures = λ _ r e. fact 𝓤 (Q (a .0) (a .1 .0) (a .1 .1 .0) (a .1 .1 .1 .0) r);
   }
 
   abbrev pub thin-clauses : {M : Type 1} (𝓤 : URA M) → Clauses 𝓤 thin
-  thin-clauses 𝓤 κs a = record { ghost = Unit {0}; requires = λ _. emp 𝓤; ensures = λ _ r e. fact 𝓤 (P (now (a .0)) r) }
+  thin-clauses 𝓤 κs a = record {
+    ghost = Unit {0};
+    requires = λ _. emp 𝓤;
+    ensures = λ _ r e. fact 𝓤 (P (now (a .0)) r);
+  }
 
   abbrev stayed : Stays (thin .signature .params) (thin .kept)
   stayed = (stay-none-ref (0 ∷ []) tt (plain (λ _. T.the-row)) yes, tt)

@@ -97,7 +97,7 @@ AfterCalls P =
 abbrev pub EveryFinish : Type 0
 EveryFinish = AfterCalls (λ h out a after. FinishDemands (h .rows) (h .columns) (h .k) (length (h .sent)) (h .sent) out a after)
 
--- what is missing: as if all that was sent were taken
+-- what is missing, as if all that was sent were taken: 1 for bad numbers, 9 where more was sent than the block has, else how many bytes were not sent yet
 abbrev pub EveryMissing : Type 0
 EveryMissing =
     (t u : Transfer) (m n k : ℕ) (es : List Event) (a : MissingAnswer) → Calls t (start m n k ∷ es) u → MissesBy u a

@@ -1,4 +1,4 @@
--- Made by tools/make.sh. `ernavluq_transfer_finish_r2` meets its contract: it has the form of `SharedBytes.antt`, and its callee is `finish_at`. Assumes nothing.
+-- Made by tools/make.sh. `ernavluq_transfer_finish_r2` meets its contract: it has the form of `SharedBytes.antt`, and calls `finish_at`. Assumes nothing.
 use mir.Syntax.{w64}
 use contract.Running.{givenOf, tables, tablesOf}
 use denote.Triple.Spec.{tripleOf}

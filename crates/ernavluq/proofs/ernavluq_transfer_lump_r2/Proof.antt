@@ -1,4 +1,4 @@
--- Made by tools/make.sh. `ernavluq_transfer_lump_r2` meets its contract: it has the form of `LentBytes.antt`, and its callee is `lump_at`. Assumes nothing.
+-- Made by tools/make.sh. `ernavluq_transfer_lump_r2` meets its contract: it has the form of `LentBytes.antt`, and calls `lump_at`. Assumes nothing.
 use mir.Syntax.{w64, w8}
 use contract.Running.{givenOf, tables, tablesOf}
 use denote.Triple.Spec.{tripleOf}

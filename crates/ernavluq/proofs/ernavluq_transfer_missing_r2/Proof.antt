@@ -1,4 +1,4 @@
--- Made by tools/make.sh. `ernavluq_transfer_missing_r2` meets its contract: it has the form of `SharedNumbers.antt`, and its callee is `missing`. Assumes nothing.
+-- Made by tools/make.sh. `ernavluq_transfer_missing_r2` meets its contract: it has the form of `SharedNumbers.antt`, and calls `missing`. Assumes nothing.
 use contract.Running.{givenOf, tables, tablesOf}
 use denote.Triple.Spec.{tripleOf}
 use denote.Triple.Table.{entered, cited}

@@ -1,4 +1,4 @@
--- Made by tools/make.sh. `ernavluq_transfer_start_r2` meets its contract: it has the form of `LentAll.antt`, and its callee is `start_at`. Assumes nothing.
+-- Made by tools/make.sh. `ernavluq_transfer_start_r2` meets its contract: it has the form of `LentAll.antt`, and calls `start_at`. Assumes nothing.
 use mir.Syntax.{w64}
 use contract.Running.{givenOf, tables, tablesOf}
 use denote.Triple.Spec.{tripleOf}
