@@ -33,8 +33,7 @@ tally-spec =
     -- loop-again
     (λ c.
     let l = c .before .before .before .loop in
-    let sets = c .before .before .before .before .before .args .sets .now in
-    (omega arith, times-step sets (l .m) (c .with-set .result) (c .with-set .ensures (times sets (l .m)) (l .inv .1))))
+    (omega arith, times-step _ (l .m) _ (c .with-set .ensures _ (l .inv .1))))
     -- returns
     (λ c.
     let l = c .before .before .before .loop in

@@ -34,8 +34,7 @@ tally-threes-spec =
     -- loop-again
     (λ c.
     let l = c .before .before .before .loop in
-    let sets = c .before .before .before .before .before .args .sets .now in
-    (omega arith, threes-step sets (l .m) (c .with-set-too .result) (c .with-set-too .ensures (times sets (l .m)) (l .inv .1))))
+    (omega arith, threes-step _ (l .m) _ (c .with-set-too .ensures _ (l .inv .1))))
     -- returns
     (λ c.
     let l = c .before .before .before .before .loop in
