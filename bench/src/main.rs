@@ -5,7 +5,10 @@ use std::process::ExitCode;
 use bench::time::Rounds;
 use bench::{agree, scenarios};
 
-const USAGE: &str = "usage: bench [time] [--quick] | bench agree";
+const USAGE: &str = "usage: bench [time] [--quick | --keep] | bench agree";
+
+/// What a run with --keep writes.
+const KEPT: &str = concat!(env!("CARGO_MANIFEST_DIR"), "/TABLE.md");
 
 /// The rounds of a full run.
 const FULL: Rounds = Rounds {
@@ -26,6 +29,7 @@ fn main() -> ExitCode {
     let rounds = match words.as_slice() {
         ["agree"] => None,
         [] | ["time"] => Some(FULL),
+        ["--keep"] | ["time", "--keep"] => Some(FULL),
         ["--quick"] | ["time", "--quick"] => Some(QUICK),
         _ => {
             eprintln!("bench: {USAGE}");
@@ -37,7 +41,14 @@ fn main() -> ExitCode {
         return ExitCode::FAILURE;
     }
     if let Some(rounds) = rounds {
-        scenarios::report(rounds);
+        let table = scenarios::report(rounds);
+        if words.contains(&"--keep") {
+            let kept = format!("# The table of the last run that was kept\n\n{table}");
+            if let Err(error) = std::fs::write(KEPT, kept) {
+                eprintln!("bench: {KEPT}: {error}");
+                return ExitCode::FAILURE;
+            }
+        }
     }
     ExitCode::SUCCESS
 }

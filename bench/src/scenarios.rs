@@ -79,18 +79,18 @@ fn pointer_lines(table: &mut Table, random: &mut Random, rounds: Rounds) {
     }
 }
 
-/// Times every scenario, and prints the table and its summary.
-pub fn report(rounds: Rounds) {
-    println!(
-        "medians of {} rounds over {INPUTS} inputs (second program: every {}th round); nanoseconds a call",
+/// Times every scenario, and prints the table and its summary; answers what it printed.
+pub fn report(rounds: Rounds) -> String {
+    let measured = format!(
+        "Medians of {} rounds over {INPUTS} inputs (second program: every {}th round); nanoseconds a call.",
         rounds.count, rounds.second_each
     );
-    println!();
     let random = &mut Random::new(SEED);
-    let mut table = Table::start();
+    let mut table = Table::start(&measured);
     grid_lines(&mut table, random, rounds);
     convert_lines(&mut table, rounds);
     scenarios_transfer::lines(&mut table, &mut Random::new(TRANSFER_SEED), rounds);
     pointer_lines(&mut table, random, rounds);
     table.print_summary();
+    table.lines()
 }

@@ -9,25 +9,11 @@ struct Ratio {
     value: f64,
 }
 
-/// A table in print: its ratios so far.
+/// A table in print: its lines and its ratios so far.
 #[derive(Default)]
 pub struct Table {
+    lines: String,
     ratios: Vec<Ratio>,
-}
-
-/// Prints one line; answers archive/peer.
-fn print_line(scenario: &str, times: Times) -> f64 {
-    let ratio = times.archive / times.peer;
-    println!(
-        "| {:<46} | {:>10.1} | {:>8.1} | {:>9.0} | {:>12.2} | {:>14.1} |",
-        scenario,
-        times.archive,
-        times.peer,
-        times.second,
-        ratio,
-        times.second / times.archive
-    );
-    ratio
 }
 
 /// The median of sorted ratios.
@@ -47,19 +33,49 @@ fn different<'a>(names: impl Iterator<Item = &'a str>) -> Vec<&'a str> {
 }
 
 impl Table {
-    /// Prints the head.
-    pub fn start() -> Table {
-        println!(
+    /// Prints what was measured, and the head.
+    pub fn start(measured: &str) -> Table {
+        let mut table = Table::default();
+        table.say(measured);
+        table.say("");
+        table.say(&format!(
             "| {:<46} | {:>10} | {:>8} | {:>9} | {:>12} | {:>14} |",
             "scenario", "archive ns", "peer ns", "second ns", "archive/peer", "second/archive"
-        );
-        println!("|---|---:|---:|---:|---:|---:|");
-        Table::default()
+        ));
+        table.say("|---|---:|---:|---:|---:|---:|");
+        table
+    }
+
+    /// Prints a line and keeps it.
+    fn say(&mut self, line: &str) {
+        println!("{line}");
+        self.lines += line;
+        self.lines.push('\n');
+    }
+
+    /// All the lines that were printed.
+    pub fn lines(self) -> String {
+        self.lines
+    }
+
+    /// Prints one line of times; answers archive/peer.
+    fn say_times(&mut self, scenario: &str, times: Times) -> f64 {
+        let ratio = times.archive / times.peer;
+        self.say(&format!(
+            "| {:<46} | {:>10.1} | {:>8.1} | {:>9.0} | {:>12.2} | {:>14.1} |",
+            scenario,
+            times.archive,
+            times.peer,
+            times.second,
+            ratio,
+            times.second / times.archive
+        ));
+        ratio
     }
 
     /// Prints the line of a scenario of a call, and takes its ratio for the summary.
     pub fn line(&mut self, call: &'static str, group: &str, scenario: &str, times: Times) {
-        let value = print_line(&format!("{call}, {scenario}"), times);
+        let value = self.say_times(&format!("{call}, {scenario}"), times);
         self.take(format!("archive/peer, {call}"), group, value);
     }
 
@@ -70,8 +86,8 @@ impl Table {
     }
 
     /// Prints a line that the summary leaves out: the sum of others, or what others are held against.
-    pub fn aside(&self, name: &str, scenario: &str, times: Times) {
-        print_line(&format!("{name}, {scenario}"), times);
+    pub fn aside(&mut self, name: &str, scenario: &str, times: Times) {
+        self.say_times(&format!("{name}, {scenario}"), times);
     }
 
     /// Prints how many times a call takes what another takes, each contestant for itself, in the columns of their times;
@@ -84,7 +100,7 @@ impl Table {
         [times, over]: [Times; 2],
     ) {
         let value = times.archive / over.archive;
-        println!(
+        self.say(&format!(
             "| {:<46} | {:>8.2} x | {:>6.2} x | {:>7.1} x | {:>12} | {:>14} |",
             format!("{name}, {scenario}"),
             value,
@@ -92,7 +108,7 @@ impl Table {
             times.second / over.second,
             "",
             ""
-        );
+        ));
         self.take(format!("{name} of the archive"), group, value);
     }
 
@@ -109,17 +125,21 @@ impl Table {
     }
 
     /// Prints for each kind of ratio the smallest, the largest and the median, and the median of each group.
-    pub fn print_summary(&self) {
-        println!();
+    pub fn print_summary(&mut self) {
+        let mut lines = vec![String::new()];
         for of in different(self.ratios.iter().map(|ratio| ratio.of.as_str())) {
             let all = self.sorted(of, None);
             let (least, most) = (all[0], all[all.len() - 1]);
-            print!("{of}: {least:.2} to {most:.2}, median {:.2}", median(&all));
+            let mut line = format!(
+                "- {of}: {least:.2} to {most:.2}, median {:.2}",
+                median(&all)
+            );
             let of_kind = self.ratios.iter().filter(|ratio| ratio.of == of);
             for group in different(of_kind.map(|ratio| ratio.group.as_str())) {
-                print!("; {group}: {:.2}", median(&self.sorted(of, Some(group))));
+                line += &format!("; {group}: {:.2}", median(&self.sorted(of, Some(group))));
             }
-            println!();
+            lines.push(line);
         }
+        lines.iter().for_each(|line| self.say(line));
     }
 }
