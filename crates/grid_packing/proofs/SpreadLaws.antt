@@ -1,4 +1,5 @@
--- Laws of bits that are spread: the lowest bits of a word at every second or every third place, by steps of which each undoes a fold of GatherLaws. Assumes nothing.
+-- Laws of bits that are spread: the lowest bits of a word at every second or every third place, by steps of which each undoes a fold of `GatherLaws`, in
+-- `grid_counters`. Assumes nothing.
 use Prim.Native.Nat.{ℕ, zero, suc, _+_, _-_, _*_, _/_, _%_, _^_, _≤_, _<_}
 use mathlib.Core.Path.{_≡_, refl, sym, ap, ap₂, _∙_}
 use mathlib.Core.Bool.{Bool, false, _&&_, _||_, or-false}

@@ -37,12 +37,11 @@ pub fn pack(
     if !packable(k, rows, columns, used, out.len()) {
         return;
     }
-    let width = grid_sizes::width(k);
     if used == 1 {
-        pack_one(width, rows, columns, rowsets, columnsets, out);
+        pack_one(k, rows, columns, rowsets, columnsets, out);
         return;
     }
-    if width == 3 {
+    if grid_sizes::width(k) == 3 {
         pack_threes(rows, columns, used, rowsets, columnsets, out);
         return;
     }
@@ -64,19 +63,19 @@ pub fn clear(out: &mut [u8])
 
 // Those of one level: 1 for each line that it took. The sets may have lines past the last.
 fn pack_one(
-    width: usize,
+    k: usize,
     rows: usize,
     columns: usize,
     rowsets: &[u64; LEVELS],
     columnsets: &[u64; LEVELS],
     out: &mut [u8],
 )
-    requires { ⌜ (0 < width) × (width ≤ 3) × (rows ≤ 64) × (columns ≤ 64) × (length (now out) ≡ bytesFor width (rows + columns)) ⌝ }
-    ensures { λ _. ⌜ now (out .exit) ≡ packed width (inOrder rows columns (times (now (rowsets .entry)) 1) (times (now (columnsets .entry)) 1)) ⌝ }
+    requires { ⌜ (rows ≤ 64) × (columns ≤ 64) × (length (now out) ≡ bytesFor (widthOf k) (rows + columns)) ⌝ }
+    ensures { λ _. ⌜ now (out .exit) ≡ packed (widthOf k) (inOrder rows columns (times (now (rowsets .entry)) 1) (times (now (columnsets .entry)) 1)) ⌝ }
 {
     let r = words::low_bits(rows) & rowsets[0];
     let c = words::low_bits(columns) & columnsets[0];
-    ones::fill_ones(out, width, tally::front(r, c, rows), tally::back(c, rows));
+    ones::fill_ones(out, k, tally::front(r, c, rows), tally::back(c, rows));
 }
 
 // Those of three bits.

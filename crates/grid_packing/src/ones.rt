@@ -3,7 +3,8 @@ use crate::fill::apart;
 use crate::threes::apart_by_three;
 use crate::threes::store_parts;
 use words::store;
-ghost use Prim.Native.Nat.{_≤_, _<_};
+ghost use Prim.Native.Nat.{_≤_};
+ghost use Rattle.rdis.specs.Packing.{width as widthOf};
 ghost use Rattle.grid_packing.specs.Steps.{StoresThrees, onesOf};
 ghost use Rattle.grid_packing.specs.Promises.{FillsPlanes};
 
@@ -30,11 +31,11 @@ fn fill_by_three(out: &mut [u8], first: u64, second: u64)
     store_by_three(out, 24, second);
 }
 
-// Stores 128 of any width, as far as there are bytes.
-pub fn fill_ones(out: &mut [u8], width: usize, first: u64, second: u64)
-    requires { ⌜ (0 < width) × (width ≤ 3) ⌝ }
-    ensures { λ _. ⌜ FillsPlanes width (onesOf first) (onesOf second) (now (out .entry)) (now (out .exit)) ⌝ }
+// Stores 128 at K, as far as there are bytes.
+pub fn fill_ones(out: &mut [u8], k: usize, first: u64, second: u64)
+    ensures { λ _. ⌜ FillsPlanes (widthOf k) (onesOf first) (onesOf second) (now (out .entry)) (now (out .exit)) ⌝ }
 {
+    let width = grid_sizes::width(k);
     if width == 1 {
         store(out, 0, first);
         store(out, 8, second);

@@ -1,4 +1,4 @@
-// Small functions on words, and on bytes that make words. Each public one answers for every argument.
+// Small functions on words, on bytes that make words, and on the bytes of a word. Each public one answers for every argument.
 mod stores;
 
 pub use stores::store;

@@ -1,7 +1,7 @@
 use borrow.Author.Needs.{needs}
 use borrow.Author.Tests.{not-true, not-false}
 use native.Mathlib.Omega.{arith}
-use mathlib.Core.Path.{_≡_, sym, ap, ap₂, subst, refl, _∙_}
+use mathlib.Core.Path.{_≡_, sym, ap, subst, refl, _∙_}
 use mathlib.Core.Bool.{true}
 use Prim.Native.Nat.{_+_, _^_, _<_, _≤_}
 use lib.ListN.{length}
@@ -27,11 +27,11 @@ room e = let a = begin e .args in packs (a .k) (a .rows) (a .columns) (a .used) 
 
 -- the width is 3
 wide : (t : tie.Then3) → width (begin (t .before .before .before) .args .k) ≡ 3
-wide t = sym (t .before .before .width .ensures) ∙ t .if3 .taken
+wide t = sym (t .before .width .ensures) ∙ t .if3 .taken
 
 -- or it is at most 2
 narrow : (t : tie.Else3) → width (begin (t .before .before .before) .args .k) ≤ 2
-narrow t = omega (arith, t .before .before .width .ensures, width-few (begin (t .before .before .before) .args .k), t .if3 .left)
+narrow t = omega (arith, t .before .width .ensures, width-few (begin (t .before .before .before) .args .k), t .if3 .left)
 
 pub pack-spec : {M : Type 1} → statement M
 pack-spec =
@@ -41,29 +41,24 @@ pack-spec =
     (λ c κs. search needs)
     -- returns
     (λ c. record { bytes = λ h. clash h (sym (c .before .packable .ensures) ∙ not-true _ (c .if1 .taken)); untouched = λ _. refl })
-    -- width-requires
-    (λ c κs. search needs)
     -- pack-one-requires
-    (λ c κs.
-    let w = c .before .before in
-    let r = room (w .before) .1 in
-    let a = begin (w .before) .args in
-    let k = w .width .ensures in
-    (omega (arith, k, width-some (a .k)), omega (arith, k, width-few (a .k)), r .rows, r .columns, r .size ∙ ap (λ w. bytesFor w (a .rows + a .columns)) (sym k)))
+    (λ c κs. let r = room (c .before .before) .1 in (r .rows, r .columns, r .size))
     -- same-length
     (λ c. search needs)
     -- returns-2
     (λ c.
     let p = c .before .before in
     let t = p .before .before in
-    let e = t .before .before in
+    let e = t .before in
     let a = begin e .args in
     record {
       bytes = λ _.
           p .pack-one .ensures
-          ∙ ap₂ (λ w u. packed w (inOrder (a .rows) (a .columns) (times (a .rowsets .now) u) (times (a .columnsets .now) u))) (t .before .width .ensures) (sym (t .if2 .taken));
+          ∙ ap (λ u. packed (width (a .k)) (inOrder (a .rows) (a .columns) (times (a .rowsets .now) u) (times (a .columnsets .now) u))) (sym (t .if2 .taken));
       untouched = λ h. clash (can e) h;
     })
+    -- width-requires
+    (λ c κs. search needs)
     -- pack-threes-requires
     (λ c κs.
     let t = c .before in
@@ -95,9 +90,7 @@ pack-spec =
     (λ c.
     let d = c .before .before in
     let k = d .before .before .before .before in
-    let t = k .before .before in
-    let w = t .before .before in
-    let e = w .before in
+    let e = k .before .before .before .before .before in
     let r = room e in
     let a = begin e .args in
     let long : length (d .fill .last .0) ≡ length (a .out .now) = omega (arith, c .before .out3 .given) in
