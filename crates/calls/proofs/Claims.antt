@@ -2,6 +2,7 @@
 use Rattle.calls.specs.Claims.{Claims}
 use Rattle.calls.proofs.StreamLaws.{call-within, call-more, short-few}
 use Rattle.calls.proofs.CutLaws.{may-be-call}
+use Rattle.calls.proofs.BadLaws.{reason-more, reason-tag, reason-cut}
 use Rattle.calls.proofs.LineLaws.{one-line, line-more, line-short, one-printed}
 use Rattle.calls.proofs.ScriptLaws.{one-script}
 
@@ -11,6 +12,9 @@ claims = record {
   endStays = call-more;
   cutIsShort = short-few;
   mayBeCall = may-be-call;
+  reasonStays = reason-more;
+  reasonIsTag = reason-tag;
+  reasonIsCut = reason-cut;
   oneLine = one-line;
   lineStays = line-more;
   lineIsShort = line-short;

@@ -1,12 +1,14 @@
 -- What is proved of these definitions themselves, beside the code: proofs/Claims.antt has a proof of each. Assumes nothing.
 use mathlib.Core.Path.{_≡_}
 use mathlib.Core.Bool.{true, false}
-use mathlib.Core.List.{List, _++_}
+use mathlib.Core.List.{List, _∷_, _++_}
+use mathlib.Core.Logic.{_↔_, _⊎_}
 use Prim.Native.Nat.{ℕ, _≤_, _<_}
-use lib.ListN.{length}
+use lib.ListN.{length, getD}
 use Rattle.bits.specs.Bits.{Below}
 use Rattle.grid_promises.specs.declared.ReadAnswer.{ReadAnswer}
 use Rattle.calls.specs.Format.{callEnd, isCutShort}
+use Rattle.calls.specs.Bad.{itsTag, cutShort, reason}
 use Rattle.calls.specs.Scripts.{Scripted}
 use Rattle.calls.specs.Calls.{LineOf, Printed}
 
@@ -27,6 +29,20 @@ CutIsShort = (bs : List ℕ) → isCutShort bs ≡ true → length bs < 41003
 -- and some bytes that follow do make it a call
 abbrev pub MayBeCall : Type 0
 MayBeCall = (bs : List ℕ) → Below 256 bs → isCutShort bs ≡ true → (rest : List ℕ) × (callEnd (bs ++ rest) ≡ 0 → ⊥)
+
+-- ---- why there is no call
+
+-- whatever follows, what is no call and not cut short is none for the same reason
+abbrev pub ReasonStays : Type 0
+ReasonStays = (bs rest : List ℕ) → callEnd bs ≡ 0 → isCutShort bs ≡ false → reason (bs ++ rest) ≡ reason bs
+
+-- its tag is the reason where it is none of 1 to 7
+abbrev pub ReasonIsTag : Type 0
+ReasonIsTag = (bs : List ℕ) → (reason bs ≡ itsTag) ↔ ((getD bs 0 0 ≡ 0) ⊎ (7 < getD bs 0 0))
+
+-- that it is cut short is the reason where bytes that follow could still make it a call
+abbrev pub ReasonIsCut : Type 0
+ReasonIsCut = (tag : ℕ) (bs : List ℕ) → callEnd (tag ∷ bs) ≡ 0 → (reason (tag ∷ bs) ≡ cutShort) ↔ (isCutShort (tag ∷ bs) ≡ true)
 
 -- ---- lines
 
@@ -59,6 +75,9 @@ pub record Claims : Type 0 where
   pub endStays : EndStays
   pub cutIsShort : CutIsShort
   pub mayBeCall : MayBeCall
+  pub reasonStays : ReasonStays
+  pub reasonIsTag : ReasonIsTag
+  pub reasonIsCut : ReasonIsCut
   pub oneLine : OneLine
   pub lineStays : LineStays
   pub lineIsShort : LineIsShort
