@@ -170,7 +170,7 @@ fn a_bad_call_says_which_it_is_where_it_begins_and_why() {
         assert_eq!(lines.lines().count(), 4);
         String::from(lines.lines().last().unwrap())
     };
-    // A tag that is none, also where nothing else could be a call.
+    // A tag that is none, alone and with bytes behind it.
     assert_eq!(last(&[0]), "bad call 4 at byte 174: its tag");
     assert_eq!(last(&[255; 99]), "bad call 4 at byte 174: its tag");
     // 1,025 elements of the first buffer, and of the third behind two empty ones, with nothing behind them and with much.
@@ -179,7 +179,7 @@ fn a_bad_call_says_which_it_is_where_it_begins_and_why() {
     assert_eq!(last(&[&number[..], &[1, 4]].concat()), length);
     assert_eq!(last(&[&number[..], &[1, 4], &[0; 9999]].concat()), length);
     assert_eq!(last(&[&number[..], &[0, 0, 0, 0, 1, 4]].concat()), length);
-    // Half of a number of elements, and a buffer without its last byte, whatever that number could become.
+    // Half of a length, two of the three bytes of a buffer, and none of 1,024 bytes.
     let short = "bad call 4 at byte 174: cut short";
     assert_eq!(last(&[&number[..], &[255]].concat()), short);
     assert_eq!(last(&[&number[..], &[3, 0, 255, 255]].concat()), short);
