@@ -21,8 +21,8 @@ turned-counted {s} {r} {input} n h t =
     let bs : List ℕ = left input (s .at) (s .end) ++ [] in
     let u = t .used [] (λ _. refl) in
     elim (ℕ-discrete (r .at) (s .at)) [
-      | yes e ↦ record { calls = omega (arith, h .calls, t .none e); offset = omega (arith, h .offset, t .offset) }
-      | no e ↦ record { calls = omega (arith, h .calls, t .more e); offset = omega (arith, h .offset, t .offset, call-most bs) }
+      | yes e ↦ record { calls = omega (arith, h .calls, t .notCounted e); offset = omega (arith, h .offset, t .offset) }
+      | no e ↦ record { calls = omega (arith, h .calls, t .counted e); offset = omega (arith, h .offset, t .offset, call-most bs) }
     ]
 
 -- a turn makes at most one call

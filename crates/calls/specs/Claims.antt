@@ -4,13 +4,15 @@ use mathlib.Core.Bool.{true, false}
 use mathlib.Core.List.{List, _∷_, _++_}
 use mathlib.Core.Logic.{_↔_, _⊎_}
 use Prim.Native.Nat.{ℕ, _≤_, _<_}
-use lib.ListN.{length, getD}
+use lib.ListN.{length, getD, drop}
 use Rattle.bits.specs.Bits.{Below}
 use Rattle.grid_promises.specs.declared.ReadAnswer.{ReadAnswer}
 use Rattle.calls.specs.Format.{callEnd, isCutShort}
 use Rattle.calls.specs.Bad.{itsTag, cutShort, reason}
 use Rattle.calls.specs.Scripts.{Scripted}
 use Rattle.calls.specs.Calls.{LineOf, Printed}
+use Rattle.calls.specs.Stream.{left, Turns, start, came, CallsTo}
+use Rattle.calls.specs.declared.State.{State}
 
 -- ---- where calls end
 
@@ -68,6 +70,13 @@ abbrev pub OneScript : Type 0
 OneScript = (m n k : ℕ) (bytes script out after after′ numbers numbers′ : List ℕ) (a a′ : ReadAnswer)
     → Scripted m n k bytes script out a after numbers → Scripted m n k bytes script out a′ after′ numbers′ → (a ≡ a′) × (after ≡ after′) × (numbers ≡ numbers′)
 
+-- ---- the whole run
+
+-- of all the bytes that came, the first are those of the calls that were made, which are as many as were counted, and what is left of them starts at the offset
+abbrev pub CallsComeFirst : Type 0
+CallsComeFirst = (input output input′ output′ : List ℕ) (n : ℕ) (s : State) (turns : Turns start input output n s input′ output′)
+    → (drop (s .offset) (came turns) ≡ left input′ (s .at) (s .end)) × CallsTo (came turns) (s .calls) (s .offset)
+
 -- ---- all of them
 
 pub record Claims : Type 0 where
@@ -83,3 +92,4 @@ pub record Claims : Type 0 where
   pub lineIsShort : LineIsShort
   pub onePrinted : OnePrinted
   pub oneScript : OneScript
+  pub callsComeFirst : CallsComeFirst
