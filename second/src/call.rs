@@ -1,5 +1,6 @@
 //! The calls and their format: a tag byte, the numbers, then the buffers, all lowest byte first.
 
+use std::fmt;
 use std::io::{self, Read, Write};
 
 /// A buffer of a call may have so many elements, whether or not the call accepts so many.
@@ -84,10 +85,31 @@ pub enum Call {
     Transfer(Transfer),
 }
 
+/// Why a call is bad: the first of these that is met when its parts are read in order.
+#[derive(Clone, Copy, Debug, PartialEq, Eq)]
+pub enum Reason {
+    /// The tag is none of the seven.
+    Tag,
+    /// A buffer says that it has more than 1,024 elements.
+    Length,
+    /// The input ends within the call.
+    CutShort,
+}
+
+impl fmt::Display for Reason {
+    fn fmt(&self, text: &mut fmt::Formatter) -> fmt::Result {
+        text.write_str(match self {
+            Reason::Tag => "its tag",
+            Reason::Length => "a length",
+            Reason::CutShort => "cut short",
+        })
+    }
+}
+
 /// Why no call could be taken from the input.
 #[derive(Debug)]
 pub enum Trouble {
-    BadCall,
+    BadCall(Reason),
     Input(io::Error),
 }
 
@@ -95,7 +117,7 @@ impl From<io::Error> for Trouble {
     /// An input that ends inside a call is a bad call; anything else is a failure of the input.
     fn from(error: io::Error) -> Trouble {
         if error.kind() == io::ErrorKind::UnexpectedEof {
-            Trouble::BadCall
+            Trouble::BadCall(Reason::CutShort)
         } else {
             Trouble::Input(error)
         }
@@ -134,7 +156,7 @@ fn next_count(input: &mut impl Read) -> Result<usize, Trouble> {
     input.read_exact(&mut bytes)?;
     let count = usize::from(u16::from_le_bytes(bytes));
     if count > MOST_ELEMENTS {
-        return Err(Trouble::BadCall);
+        return Err(Trouble::BadCall(Reason::Length));
     }
     Ok(count)
 }
@@ -209,7 +231,7 @@ pub fn next_call(input: &mut impl Read) -> Result<Option<Call>, Trouble> {
             script: next_bytes(input)?,
             output: next_words(input)?,
         }),
-        _ => return Err(Trouble::BadCall),
+        _ => return Err(Trouble::BadCall(Reason::Tag)),
     };
     Ok(Some(call))
 }

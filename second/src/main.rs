@@ -1,7 +1,7 @@
 //! The commands: `run` makes the calls on standard input; `make`, `cases`, `long`, `levels`, `fragments` and `entries` put
 //! calls out.
 
-use std::io::{self, BufReader, BufWriter, Write};
+use std::io::{self, BufReader, BufWriter, Read, Write};
 use std::process::ExitCode;
 
 use second::answer;
@@ -14,10 +14,31 @@ const USAGE: &str = "usage: second run < calls | second make SEED COUNT [whole |
     | second cases > calls | second long > calls | second levels > calls | second fragments > calls \
     | second entries > calls";
 
-/// Makes each call on the input and prints one line a call, until the input ends or a call is bad.
+/// An input that counts the bytes that were read from it.
+struct Counting<Input> {
+    input: Input,
+    count: u64,
+}
+
+impl<Input: Read> Read for Counting<Input> {
+    fn read(&mut self, bytes: &mut [u8]) -> io::Result<usize> {
+        let came = self.input.read(bytes)?;
+        self.count += came as u64;
+        Ok(came)
+    }
+}
+
+/// Makes each call on the input and prints one line a call, until the input ends or a call is bad. A bad call's line has
+/// its number, from 1 on, the offset of its first byte, from 0 on, and why it is bad.
 fn run(output: &mut impl Write) -> Result<(), String> {
-    let mut input = BufReader::new(io::stdin().lock());
+    let mut input = Counting {
+        input: BufReader::new(io::stdin().lock()),
+        count: 0,
+    };
+    let mut number: u64 = 0;
     loop {
+        number += 1;
+        let offset = input.count;
         match next_call(&mut input) {
             Ok(None) => return Ok(()),
             Ok(Some(mut call)) => {
@@ -25,8 +46,9 @@ fn run(output: &mut impl Write) -> Result<(), String> {
                 let line = answer::line(&call, &outcome);
                 writeln!(output, "{line}").map_err(|error| error.to_string())?;
             }
-            Err(Trouble::BadCall) => {
-                return writeln!(output, "bad call").map_err(|error| error.to_string());
+            Err(Trouble::BadCall(why)) => {
+                return writeln!(output, "bad call {number} at byte {offset}: {why}")
+                    .map_err(|error| error.to_string());
             }
             Err(Trouble::Input(error)) => return Err(error.to_string()),
         }

@@ -32,6 +32,9 @@ fn printed(input: &[u8]) -> String {
     String::from_utf8(output.stdout).unwrap()
 }
 
+/// What is printed where the first call is cut short.
+const CUT_SHORT: &str = "bad call 1 at byte 0: cut short\n";
+
 /// A grid read of one cell, K = 1, counters 03: the bytes of the format, written out.
 fn one_cell_read() -> Vec<u8> {
     let mut bytes = vec![4];
@@ -103,7 +106,7 @@ fn conversions_print_an_index_and_the_output() {
     assert_eq!(printed(&conversion_of_g3(4, 0x96, &[9])), "2 0 09\n");
     assert_eq!(printed(&conversion_of_g3(4, 0x96, &[])), "2 0 -\n");
     for length in 1..wider.len() {
-        assert_eq!(printed(&wider[..length]), "bad call\n");
+        assert_eq!(printed(&wider[..length]), CUT_SHORT);
     }
 }
 
@@ -132,23 +135,55 @@ fn transfers_print_an_index_the_output_and_the_steps() {
     let over = transfer_of_g2(&[9, 255, 1, 0, 255]);
     assert_eq!(printed(&over), format!("9 0 {shown} 000000090909\n"));
     for length in 1..call.len() {
-        assert_eq!(printed(&call[..length]), "bad call\n");
+        assert_eq!(printed(&call[..length]), CUT_SHORT);
     }
 }
 
 #[test]
 fn bad_calls_stop_the_run() {
     let good = one_cell_read();
+    assert_eq!(good.len(), 48);
     let line = "0 0 0000000000000001\n";
     for length in 1..good.len() {
-        assert_eq!(printed(&good[..length]), "bad call\n");
+        assert_eq!(printed(&good[..length]), CUT_SHORT);
         let after_good = [&good, &good[..length]].concat();
-        assert_eq!(printed(&after_good), format!("{line}bad call\n"));
+        assert_eq!(
+            printed(&after_good),
+            format!("{line}bad call 2 at byte 48: cut short\n")
+        );
     }
     for tag in [0, 8, 255] {
         let input = [good.clone(), vec![tag], good.clone()].concat();
-        assert_eq!(printed(&input), format!("{line}bad call\n"));
+        assert_eq!(
+            printed(&input),
+            format!("{line}bad call 2 at byte 48: its tag\n")
+        );
     }
+}
+
+#[test]
+fn a_bad_call_says_which_it_is_where_it_begins_and_why() {
+    // A grid read of one cell, and calls of 58 and 68 bytes before the bad one.
+    let before = [one_cell_read(), one_cell_stuck(3, 0), one_cell_stuck(5, 3)].concat();
+    let last = |bad: &[u8]| {
+        let lines = printed(&[&before, bad].concat());
+        assert_eq!(lines.lines().count(), 4);
+        String::from(lines.lines().last().unwrap())
+    };
+    // A tag that is none, alone and with bytes behind it.
+    assert_eq!(last(&[0]), "bad call 4 at byte 174: its tag");
+    assert_eq!(last(&[255; 99]), "bad call 4 at byte 174: its tag");
+    // 1,025 elements of the first buffer, and of the third behind two empty ones, with nothing behind them and with much.
+    let number = [2, 1, 0, 0, 0, 0, 0, 0, 0];
+    let length = "bad call 4 at byte 174: a length";
+    assert_eq!(last(&[&number[..], &[1, 4]].concat()), length);
+    assert_eq!(last(&[&number[..], &[1, 4], &[0; 9999]].concat()), length);
+    assert_eq!(last(&[&number[..], &[0, 0, 0, 0, 1, 4]].concat()), length);
+    // Half of a length, two of the three bytes of a buffer, and none of 1,024 bytes.
+    let short = "bad call 4 at byte 174: cut short";
+    assert_eq!(last(&[&number[..], &[255]].concat()), short);
+    assert_eq!(last(&[&number[..], &[3, 0, 255, 255]].concat()), short);
+    assert_eq!(last(&[&number[..], &[0, 4]].concat()), short);
 }
 
 /// A pointer read, n = 1, whose cells are so many bytes and whose other buffers have none.
@@ -179,8 +214,9 @@ fn a_buffer_holds_at_most_1024_elements() {
         assert_eq!(printed(&read_of_words(count)), "2 0 -\n");
     }
     for count in [1025, 2048, u16::MAX] {
-        assert_eq!(printed(&read_of_bytes(count)), "bad call\n");
-        assert_eq!(printed(&read_of_words(count)), "bad call\n");
+        let line = "bad call 1 at byte 0: a length\n";
+        assert_eq!(printed(&read_of_bytes(count)), line);
+        assert_eq!(printed(&read_of_words(count)), line);
     }
 }
 

@@ -12,7 +12,7 @@ use lib.ListN.{length, getD, List·getD-eq-default}
 use borrow.Author.Tests.{eqb-true, eqb-false, not-true, leb-true, ltb-true, ne-eqb, le-leb, lt-leb, lt-ltb}
 use Rattle.bits.specs.Bits.{some}
 use Rattle.bits.proofs.TestLaws.{clash, same-test, and-left, and-right, false-when}
-use Rattle.calls.specs.Format.{many, isBuffer, isOver, afterNumbers, afterBuffer, table, formOf, width, placeOf, place, formEnd, isBad, Found, noForm, Whole, Tagged, Held}
+use Rattle.calls.specs.Format.{many, isBuffer, isOver, afterNumbers, afterBuffer, table, formOf, width, placeOf, place, formEnd, hasOver, Found, noForm, Whole, Tagged, Held}
 use Rattle.calls.specs.declared.input.Form.{Form}
 use Rattle.calls.specs.declared.input.Reach.{Reach}
 
@@ -202,9 +202,8 @@ found-last bs {r = r} e k h = transport (λ x. Found bs (e x) (k x) r) h
 pub end-done : (bs : List ℕ) (f : Form) (tag p : ℕ) → f ≡ formOf tag → (f .buffers ≡ 0 → ⊥) → p ≡ place bs tag (f .buffers) → p ≡ formEnd bs (formOf tag)
 end-done bs f tag p e h k = k ∙ ap (λ g. placeOf bs g (f .buffers)) (sym e) ∙ some-buffers bs f h ∙ ap (formEnd bs) e
 
-pub bad-done : (bs : List ℕ) (f : Form) (tag : ℕ) {t : Bool} → f ≡ formOf tag → t ≡ some (f .buffers) (λ i. isOver bs (place bs tag i)) → eqb (f .buffers) 0 || t ≡ isBad bs (formOf tag)
-unfolding isBad
-bad-done bs f tag e h = ap (λ u. eqb (f .buffers) 0 || u) h ∙ ap (λ g. eqb (g .buffers) 0 || some (g .buffers) (λ i. isOver bs (place bs tag i))) e
+pub over-done : (bs : List ℕ) (f : Form) (tag : ℕ) {t : Bool} → f ≡ formOf tag → t ≡ some (f .buffers) (λ i. isOver bs (place bs tag i)) → t ≡ hasOver bs (formOf tag)
+over-done bs f tag e h = h ∙ ap (λ g. some (g .buffers) (λ i. isOver bs (place bs tag i))) e
 
 -- where a call does not end at 0, all its numbers and buffers are there
 module _ (bs : List ℕ) (f : Form) where

@@ -79,9 +79,17 @@ place bs tag i = placeOf bs (formOf tag) i
 unfoldable pub formEnd : List ℕ → Form → ℕ
 formEnd bs f = cond (eqb (f .buffers) 0) 0 (placeOf bs f (f .buffers))
 
--- there is no call of this form, whatever follows: it is the form of no call, or a buffer has too many elements
+-- it is the form of no call
+abbrev pub hasNone : Form → Bool
+hasNone f = eqb (f .buffers) 0
+
+-- a buffer of a call of this form has too many elements
+abbrev pub hasOver : List ℕ → Form → Bool
+hasOver bs f = some (f .buffers) (λ i. isOver bs (placeOf bs f i))
+
+-- there is no call of this form, whatever follows
 unfoldable pub isBad : List ℕ → Form → Bool
-isBad bs f = eqb (f .buffers) 0 || some (f .buffers) (λ i. isOver bs (placeOf bs f i))
+isBad bs f = hasNone f || hasOver bs f
 
 -- a place was found, and whether a buffer before it has too many elements
 pub record Found (bs : List ℕ) (f : Form) (i : ℕ) (r : Reach) : Type 0 where

@@ -3,16 +3,21 @@ ghost use mathlib.Core.Path.{_≡_};
 ghost use Prim.Native.Nat.{_≤_, _<_};
 ghost use lib.ListN.{length};
 ghost use Rattle.calls.specs.Format.{Whole, Tagged, isCutShort};
+ghost use Rattle.calls.specs.Bad.{reason, badCall};
 ghost use Rattle.calls.specs.Calls.{LineAt, PutLine, Printed};
+ghost use Rattle.wire.specs.Text.{Put};
 use crate::input::MOST_ELEMENTS;
 use crate::input::call_end;
 use crate::input::call_number;
 use crate::input::call_sizes;
 use crate::input::elements;
+use crate::input::has_none;
+use crate::input::has_over;
 use crate::input::is_bad;
 use crate::input::load_bytes;
 use crate::input::load_words;
 use crate::print::put_answer;
+use crate::print::put_bad;
 use crate::print::put_bytes;
 use crate::print::put_end;
 use crate::print::put_words;
@@ -203,4 +208,13 @@ pub fn call(s: &[u8], out: &mut [u8], put: usize) -> Made
         taken,
         put: put_end(out, end),
     }
+}
+
+// Puts the line that says why there is no call at the front of the bytes, with the number and the offset that it would have had.
+pub fn bad_call(s: &[u8], out: &mut [u8], put: usize, number: usize, offset: usize) -> usize
+    requires { ⌜ 0 < length (now s) ⌝ }
+    ensures { λ r. ⌜ Put (badCall number offset (reason (now (s .entry)))) (now (out .entry)) put (now (out .exit)) r ⌝ }
+{
+    let tag = s[0];
+    put_bad(out, put, number, offset, has_none(tag), has_over(s, tag))
 }

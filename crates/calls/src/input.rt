@@ -5,7 +5,8 @@ ghost use Prim.Native.Nat.{_+_, _*_, _≤_};
 ghost use lib.Dec.{leb};
 ghost use lib.ListN.{length};
 ghost use Rattle.bits.specs.Bits.{list};
-ghost use Rattle.calls.specs.Format.{callNumber, afterNumbers, afterBuffer, isOver, form, formOf, place, formEnd, isBad, Found, Held, bufferOf};
+ghost use Rattle.calls.specs.Format.{callNumber, afterNumbers, afterBuffer, isOver, form, formOf, place, formEnd};
+ghost use Rattle.calls.specs.Format.{hasNone, hasOver, isBad, Found, Held, bufferOf};
 use words::number_at;
 
 // A buffer of a call has no more elements.
@@ -157,13 +158,28 @@ pub fn call_end(s: &[u8], tag: u8) -> usize
     place(s, tag, f.buffers)
 }
 
+// Whether no call has this tag.
+pub fn has_none(tag: u8) -> bool
+    ensures { λ r. ⌜ r ≡ hasNone (formOf tag) ⌝ }
+{
+    let f = form_of(tag);
+    f.buffers == 0
+}
+
+// Whether a buffer of a call with this tag has too many elements.
+pub fn has_over(s: &[u8], tag: u8) -> bool
+    ensures { λ r. ⌜ r ≡ hasOver (now (s .entry)) (formOf tag) ⌝ }
+{
+    let f = form_of(tag);
+    let found = find(s, tag, f.buffers);
+    found.over
+}
+
 // Whether there is no call with this tag, whatever follows.
 pub fn is_bad(s: &[u8], tag: u8) -> bool
     ensures { λ r. ⌜ r ≡ isBad (now (s .entry)) (formOf tag) ⌝ }
 {
-    let f = form_of(tag);
-    let found = find(s, tag, f.buffers);
-    (f.buffers == 0) | found.over
+    has_none(tag) | has_over(s, tag)
 }
 
 // Buffer i of a call with this tag, which is one of bytes.

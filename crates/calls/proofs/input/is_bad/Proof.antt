@@ -1,14 +1,15 @@
-use Rattle.calls.proofs.FormatLaws.{small-by, bad-done}
+use mathlib.Core.Path.{ap₂}
+use mathlib.Core.Bool.{_||_}
+use Rattle.calls.specs.Format.{isBad}
 use Rattle.calls.proofs.input.is_bad.Statement.{statement}
 use Rattle.calls.proofs.input.is_bad.Tie as tie
 
 pub is-bad-spec : {M : Type 1} → statement M
+unfolding isBad
 is-bad-spec =
     tie.close
     (tie.spec
-    -- form-of-requires
-    (λ c κs. tt)
-    -- find-requires
-    (λ c κs. small-by _ (c .form-of .ensures) .buffers)
+    -- has-none-requires, has-over-requires
+    (λ c κs. tt) (λ c κs. tt)
     -- returns
-    (λ c. bad-done _ _ _ (c .before .before .before .form-of .ensures) (c .before .before .find .ensures .over)))
+    (λ c. ap₂ _||_ (c .before .has-none .ensures) (c .has-over .ensures)))
