@@ -109,7 +109,7 @@ ernavluq_pointer_read_answer ernavluq_pointer_read(
     const uint8_t *metadata, size_t metadata_length,
     uint8_t *out, size_t out_length);
 
-/* Writes data to a row. Takes n entries (1 to 10), the data, which cells are stuck and at what, and the row's metadata as it stands. Accepted, cells
+/* Writes data to a row. Takes n entries (1 to 10), the data, which cells are stuck and at what, and the row's metadata as it is. Accepted, cells
  * holds what the cells then hold: a stuck cell its stuck value, any other its data bit. The metadata holds the entries: the active ones keep their place
  * and pointer, and each position whose cell is stuck at the wrong bit has one. Reading the two gives the data. Of the old cells only the length counts.
  * Refusals: 1 to 6, and 6 exactly where the kept entries and the positions that need a new one are together more than n;
@@ -145,7 +145,7 @@ static inline ernavluq_pointer_write_answer ernavluq_pointer_write(
  * store and a read are given the K of the plan, or, with converted counters, the target of the conversion.
  *
  * A store, a read or a conversion that finds a counter above K answers refusal 4, if no lower refusal applies, and says which: the index counts the counters
- * from 0 as they stand in the bytes, the rows first and then the columns. An index below rows is that row, and an index of rows or more is column
+ * from 0 in the order of the bytes, the rows first and then the columns. An index below rows is that row, and an index of rows or more is column
  * (index - rows). If several counters are above K, it is the lowest index of theirs. */
 
 #define ERNAVLUQ_MAX_ROWS 64
@@ -153,7 +153,7 @@ static inline ernavluq_pointer_write_answer ernavluq_pointer_write(
 #define ERNAVLUQ_MAX_LEVELS 7
 /* The bytes of counters, k from 1 to ERNAVLUQ_MAX_LEVELS: they have 1 bit each for K = 1, 2 bits each for K = 2 and 3, and 3 bits each for K = 4 to 7. */
 #define ERNAVLUQ_COUNTER_BYTES(rows, columns, k) ((((rows) + (columns)) * ((k) == 1 ? 1 : (k) <= 3 ? 2 : 3) + 7) / 8)
-/* No block's counters take more: so many bytes are those of 64 rows and 64 columns at K = 4 to 7. */
+/* The bytes of the longest counters: those of 64 rows and 64 columns at K = 4 to 7. */
 #define ERNAVLUQ_MAX_COUNTER_BYTES 48
 
 typedef struct {
@@ -240,8 +240,8 @@ ernavluq_grid_read_answer ernavluq_grid_read(
     uint64_t *out, size_t out_length);
 
 /* Converts the counters of a block from K to an equal or a larger one, the target: `to`. Takes the block's rows and columns (1 to 64 each), K (1 to 7), the
- * target (K to 7) and the counters at K, whoever made them. Accepted, out holds the same counters at the target: each has the same number and stands in its
- * order, in as many bits as counters have at the target, and the spare bits are 0. Any cells read at the target with out as they read at K with counters.
+ * target (K to 7) and the counters at K, whoever made them. Accepted, out holds the same counters at the target: each has the same value and keeps its
+ * place, in as many bits as counters have at the target, and the spare bits are 0. Any cells read at the target with out as they read at K with counters.
  * counters has ERNAVLUQ_COUNTER_BYTES(rows, columns, k) bytes, out ERNAVLUQ_COUNTER_BYTES(rows, columns, to). Of out only the length counts; it may not be
  * the buffer of the counters, even where it gets the same bytes.
  * Refusals: 1 to 4; a target smaller than K is 1. */
