@@ -52,7 +52,7 @@ rowEdges =
     ∷ record { call = zeroWrite 3 [] [] (0x58 ∷ 0x1A ∷ 0x60 ∷ 0x00 ∷ []); expected = wrote 2 0 [] (0x58 ∷ 0x1A ∷ 0x60 ∷ 0x00 ∷ []) }
     -- an entry between the last active one and the last is 0
     ∷ record { call = zeroWrite 3 (3 ∷ []) (3 ∷ []) (0 ∷ 0 ∷ 0 ∷ 0 ∷ []); expected = wrote 1 1 (3 ∷ []) (0x06 ∷ 0x00 ∷ 0x20 ∷ 0x00 ∷ []) }
-    -- n may be 10, and nine ones fill the field in which the last entry counts; so many are read back
+    -- n may be 10, and nine ones fill the field in which the last entry counts; nine are read back
     ∷ record { call = zeroWrite 10 nine nine (replicate 13 0); expected = wrote 9 9 nine nineOfTen }
     ∷ record { call = pointerRead 10 (ones nine) nineOfTen old; expected = record { numbers = 0 ∷ []; buffers = ones [] ∷ [] } }
     -- entries are left, but not enough of them

@@ -7,7 +7,7 @@ use Rattle.fragment_promises.specs.Sequences.{Event, start, lump, finish}
 use Rattle.cases.specs.Lines.{Line, Call, transfer}
 use Rattle.cases.specs.Table.{Row}
 
--- a finish that is accepted and fills the output, and one that is refused with this number and index. The first start answered 0; in the end the record stands at
+-- a finish that is accepted and fills the output, and one that is refused with this number and index. The first start answered 0; in the end the record has noted
 -- 0, or at this
 abbrev pub filled : List ℕ → Line
 filled out = record { numbers = 0 ∷ 0 ∷ 0 ∷ 0 ∷ []; buffers = out ∷ [] }

@@ -46,7 +46,7 @@ levelEdges =
     ∷ record { call = readFive 4 0x00 0x7A; expected = readNames 3 (7 ∷ 8 ∷ []) }
     ∷ record { call = readFive 4 0x05 0x70; expected = readNames 0 (7 ∷ 8 ∷ []) }
     ∷ record { call = readFive 5 0x30 0x0E; expected = readNames 1 (7 ∷ 8 ∷ []) }
-    -- counters of K are not above K: at 4, at 6, and at 7 none can be. The counter of column 0 stands in both bytes
+    -- counters of K are not above K: at 4, at 6, and at 7 none can be. The counter of column 0 lies in both bytes
     ∷ record { call = readFive 4 0x64 0x0F; expected = readNames 2 (7 ∷ 8 ∷ []) }
     ∷ record { call = readFive 4 0x24 0x59; expected = readNames 4 (7 ∷ 8 ∷ []) }
     ∷ record { call = readFive 4 0x24 0x49; expected = shown (5 ∷ 2 ∷ []) }

@@ -64,7 +64,7 @@ readRefused m n k counters number = number ∷ badIndex k (m + n) counters numbe
 abbrev pub storeRefused : Block → ℕ → (counters : List ℕ) → ℕ → List ℕ
 storeRefused b k counters number = uncounted number (badIndex k (b .rows + b .columns) counters number)
 
--- the line of a finish of a record, after a start that answered `begun`: that, and what the record stands at, come after the number and the index
+-- the line of a finish of a record, after a start that answered `begun`: that, and what the record has noted, come after the number and the index
 abbrev pub finishOf : Transfer → List ℕ → ℕ
 finishOf t out = finishNumber (t .rows) (t .columns) (t .k) (t .taken) (held t) (length out)
 

@@ -64,7 +64,7 @@ Promised (gridStore b k counters cells) l =
 Promised (gridConvert m n k k′ counters out) l =
     (answer : ConvertAnswer) (out′ : List ℕ) → Convert m n k k′ counters out answer out′
     → record { numbers = answer .number ∷ answer .index ∷ []; buffers = out′ ∷ [] } ≡ l
--- after the number and the index: what the start answered, and what the record stands at in the end
+-- after the number and the index: what the start answered, and what the record has noted in the end
 Promised (transfer m n k calls out) l =
     (x : ℕ) (t u : Transfer) (answer : gridReadAnswer.ReadAnswer) (out′ : List ℕ) → Start m n k x t → Calls t calls u → Finishes u out answer out′
     → record { numbers = answer .number ∷ answer .index ∷ x ∷ standingOf u ∷ []; buffers = out′ ∷ [] } ≡ l

@@ -55,7 +55,7 @@ pub record LumpDemands (t : Transfer) (bs : List ℕ) (x : ℕ) (u : Transfer) :
   -- what the start was told stays, and so does the room
   pub told : Told (t .rows) (t .columns) (t .k) u
   pub room : length (u .bytes) ≡ length (t .bytes)
-  -- taken: every byte of it stands after those that were taken before
+  -- taken: every byte of it comes after those that were taken before
   pub counted : x ≡ 0 → u .taken ≡ t .taken + length bs
   pub placed : x ≡ 0 → (i : ℕ) → i < length bs → getD (u .bytes) (t .taken + i) 0 ≡ getD bs i 0
   pub others : x ≡ 0 → (i : ℕ) → (i < t .taken) ⊎ (t .taken + length bs ≤ i) → getD (u .bytes) i 0 ≡ getD (t .bytes) i 0
@@ -66,7 +66,7 @@ pub record LumpDemands (t : Transfer) (bs : List ℕ) (x : ℕ) (u : Transfer) :
   -- where a refusal was noted before, nothing changes
   pub stays : (Good t → ⊥) ⊎ (sizeOf t < t .taken) → u .taken ≡ t .taken
 
--- ---- a finish: so many bytes were taken, and bs are those held
+-- ---- a finish: `taken` bytes were taken, and bs are those held
 
 -- the cell (i, j) among the bits of a block's bytes: 64 bits a row, after the bytes of the counters
 abbrev pub cellBit : ℕ → ℕ → ℕ → List ℕ → ℕ → ℕ → Bool
@@ -76,7 +76,7 @@ cellBit m n k bs i j = at bs (8 * (counterBytes m n k + 8 * i) + j)
 abbrev pub PastBytes : ℕ → ℕ → ℕ → List ℕ → Type 0
 PastBytes m n k bs = (i : ℕ) × (j : ℕ) × (i < m) × (n ≤ j) × (j < 64) × (cellBit m n k bs i j ≡ true)
 
--- its refusals in the order in which they are judged: those of numbers and lengths, and then others. So many bytes were taken, and so many are held
+-- its refusals in the order in which they are judged: those of numbers and lengths, and then others. `taken` bytes were taken, and `held` are held
 abbrev pub lengthRefusals : (m n k taken held out : ℕ) → List Refusal → List Refusal
 lengthRefusals m n k taken held out others =
     (1 when (InRange m n k → ⊥)) ∷ (9 when (size m n k < taken)) ∷ (2 when (out ≢ m)) ∷ (8 when (held < size m n k)) ∷ others
@@ -100,7 +100,7 @@ pub record FinishDemands (m n k taken : ℕ) (bs out : List ℕ) (answer : ReadA
   pub shows : answer .number ≡ 0 → (i j x y : ℕ) → i < m → j < n → Held (width k) (countersOf m n k bs) i x → Held (width k) (countersOf m n k bs) (m + j) y
       → bit after i j ≡ inverted x y (cellBit m n k bs i j)
 
--- ---- how many bytes are missing: so many were taken
+-- ---- how many bytes are missing, where `taken` were taken
 
 -- the refusals that a record has noted, in the order in which they are judged
 abbrev pub missingRefusals : ℕ → ℕ → ℕ → ℕ → List Refusal

@@ -20,7 +20,7 @@ use Rattle.fragment_promises.specs.Demands.{startRefusals, lumpRefusals,
 
 -- ---- a start and a lump: x is the number that the call answers, t the record that it is lent, and u that record afterwards
 
--- the record afterwards is v, and the number is what v stands at
+-- the record afterwards is v, and the number is what v has noted
 pub record Leaves (v : Transfer) (x : ℕ) (u : Transfer) : Type 0 where
   pub number : x ≡ standingOf v
   pub left : u ≡ v
@@ -35,7 +35,7 @@ pub record Lump (t : Transfer) (bs : List ℕ) (x : ℕ) (u : Transfer) : Type 0
   pub exactly : Leaves (lumped t bs) x u
   pub demands : LumpDemands t bs x u
 
--- ---- a finish where so many bytes were taken and bs are those held: lent `out`, which holds `after` at the end. It only reads the record
+-- ---- a finish where `taken` bytes were taken and bs are those held: lent `out`, which holds `after` at the end. It only reads the record
 
 pub record FinishExactly (m n k taken : ℕ) (bs out : List ℕ) (answer : ReadAnswer) (after : List ℕ) : Type 0 where
   -- the number, computed
@@ -61,7 +61,7 @@ Finishes t = Finish (t .rows) (t .columns) (t .k) (t .taken) (held t)
 abbrev pub FinishesBy : Transfer → List ℕ → ReadAnswer → List ℕ → Type 0
 FinishesBy t = FinishDemands (t .rows) (t .columns) (t .k) (t .taken) (held t)
 
--- ---- how many bytes are missing where so many were taken. It only reads the record
+-- ---- how many bytes are missing where `taken` were taken. It only reads the record
 
 pub record MissingExactly (m n k taken : ℕ) (answer : MissingAnswer) : Type 0 where
   pub number : answer .number ≡ standing m n k taken

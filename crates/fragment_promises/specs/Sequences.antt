@@ -72,7 +72,7 @@ abbrev pub story : Story → List Event → Story
 story h [] = h
 story h (e ∷ es) = story (tell h e) es
 
--- its numbers lie in their ranges, and so many bytes its block has
+-- its numbers lie in their ranges, and the number of bytes that its block has
 abbrev pub Fine : Story → Type 0
 Fine h = InRange (h .rows) (h .columns) (h .k)
 
@@ -154,7 +154,7 @@ Bad = AfterCalls (λ h out a after. (Fine h → ⊥) → RefusedWith 1 out a aft
 
 -- ---- what is missing tells how a finish with an output of the right length ends
 
--- where so many bytes are missing after a start and any calls, such a finish ends as P says
+-- after a start, any calls and an answer of how many bytes are missing, such a finish ends as P says
 abbrev pub AfterMissing : (ℕ → Story → List ℕ → ReadAnswer → List ℕ → Type 0) → Type 0
 AfterMissing P =
     (t u : Transfer) (m n k : ℕ) (es : List Event) (a : MissingAnswer) → Calls t (start m n k ∷ es) u → MissesBy u a → a .number ≡ 0

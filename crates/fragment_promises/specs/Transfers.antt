@@ -37,18 +37,18 @@ wordBytes (w ∷ ws) = digits 256 8 w ++ wordBytes ws
 
 -- ---- numbers
 
--- what a record of these numbers stands at, where so many bytes were taken: 1, 9 or else 0. A start and a lump answer it, and it comes first in every later call
+-- what a record of these numbers has noted, where `taken` bytes were taken: 1, 9 or else 0. A start and a lump answer it, and it comes first in every later call
 unfoldable pub standing : ℕ → ℕ → ℕ → ℕ → ℕ
 standing m n k taken = cond (not (inRange m n k)) 1 (cond (ltb (size m n k) taken) 9 0)
 
--- the number of a finish: so many bytes were taken, bs are those held, and the output has `out` words
+-- the number of a finish: `taken` bytes were taken, bs are those held, and the output has `out` words
 unfoldable pub finishNumber : ℕ → ℕ → ℕ → ℕ → List ℕ → ℕ → ℕ
 finishNumber m n k taken bs out =
     cond (not (inRange m n k)) 1
     (cond (ltb (size m n k) taken) 9
     (cond (not (eqb out m)) 2 (cond (ltb (length bs) (size m n k)) 8 (readNumber m n k (cellsOf m n k bs) (countersOf m n k bs) out))))
 
--- how many bytes of the block are missing where so many were taken: none are counted where the record stands at a refusal
+-- how many bytes of the block are missing where `taken` were taken: none are counted where the record has noted a refusal
 unfoldable pub missing : ℕ → ℕ → ℕ → ℕ → ℕ
 missing m n k taken = cond (eqb (standing m n k taken) 0) (size m n k - taken) 0
 
@@ -86,6 +86,6 @@ extended t bs =
 abbrev pub noted : Transfer → Transfer
 noted t = record { rows = t .rows; columns = t .columns; k = t .k; taken = 561; bytes = t .bytes }
 
--- after a lump; a record that stands at a refusal stays as it is
+-- after a lump; a record that has noted a refusal stays as it is
 unfoldable pub lumped : Transfer → List ℕ → Transfer
 lumped t bs = cond (eqb (standingOf t) 0) (cond (leb (t .taken + length bs) (sizeOf t)) (extended t bs) (noted t)) t

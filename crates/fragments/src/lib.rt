@@ -22,7 +22,7 @@ ghost use Rattle.fragment_promises.specs.Demands.{lengthRefusals};
 ghost use Rattle.fragment_promises.specs.Promises.{Start, Lump, Finish, Finishes, Missing};
 ghost use Rattle.fragments.specs.Steps.{Judges};
 
-// After a refused lump so many bytes count as taken: more than any block has.
+// The bytes that count as taken after a refused lump: more than any block has.
 const TOO_MANY: usize = LONGEST + 1;
 
 // How many bytes hold the counters of a block.
@@ -41,7 +41,7 @@ fn size(rows: usize, columns: usize, k: usize) -> usize
     counter_bytes(rows, columns, k) + 8 * rows
 }
 
-// What a record stands at: 1, 9 or else 0.
+// What a record has noted: 1, 9 or else 0.
 fn standing(rows: usize, columns: usize, k: usize, taken: usize) -> usize
     ensures { λ r. ⌜ r ≡ standingIs rows columns k taken ⌝ }
 {
@@ -103,7 +103,7 @@ struct Judged {
     more: usize,
 }
 
-// A lump of `more` bytes. A record that stands at a refusal stays as it is.
+// A lump of `more` bytes. A record that has noted a refusal stays as it is.
 fn judge(rows: usize, columns: usize, k: usize, taken: usize, more: usize) -> Judged
     ensures { λ r. ⌜ Judges rows columns k taken more r ⌝ }
 {
@@ -168,7 +168,7 @@ pub fn lump(t: Transfer, bytes: &[u8]) -> Step
     Step { number, transfer }
 }
 
-// How many bytes of the block are missing, where so many were taken.
+// How many bytes of the block are missing, where `taken` were taken.
 pub fn missing(rows: usize, columns: usize, k: usize, taken: usize) -> MissingAnswer
     ensures { λ r. ⌜ Missing rows columns k taken r ⌝ }
 {
@@ -180,7 +180,7 @@ pub fn missing(rows: usize, columns: usize, k: usize, taken: usize) -> MissingAn
     MissingAnswer { number, bytes }
 }
 
-// The refusal of a finish by numbers and lengths, where so many bytes count as taken and so many are held: 1, 9, 2, 8 or else 0.
+// The refusal of a finish by numbers and lengths, where `taken` bytes count as taken and `held` are held: 1, 9, 2, 8 or else 0.
 fn unfinished(rows: usize, columns: usize, k: usize, taken: usize, held: usize, out: usize) -> usize
     ensures { λ r. ⌜ First (lengthRefusals rows columns k taken held out []) r ⌝ }
 {

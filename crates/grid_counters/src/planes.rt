@@ -32,7 +32,7 @@ fn seconds(v: u64) -> u64
     0xffff_ffff & (e | (e >> 16))
 }
 
-// One bit of 64 counters of two bits, whose lower one stands at the even places of two words.
+// One bit of 64 counters of two bits, whose lower one is at the even places of two words.
 fn plane(first: u64, second: u64) -> u64
     ensures { λ r. ⌜ ((f : ℕ → Bool) → ((i : ℕ) → i < 32 → has first (2 * i) ≡ f i) → ((i : ℕ) → i < 32 → has second (2 * i) ≡ f (32 + i)) → r ≡ word 64 f) ⌝ }
 {

@@ -1,4 +1,4 @@
-// Counters of three bits, which stand over the ends of bytes: their planes from bytes, and the sets of their lines.
+// Counters of three bits, which lie over the ends of bytes: their planes from bytes, and the sets of their lines.
 use crate::planes::cut;
 use crate::planes::load;
 use crate::planes::sets;
@@ -37,7 +37,7 @@ fn thirds_of_two(first: u64, second: u64) -> u64
     (thirds(second) << 16) | thirds(first)
 }
 
-// One bit of 64 counters, which stands at every third place of four words, from the first place on.
+// One bit of 64 counters, which is at every third place of four words, from the first place on.
 fn third_plane(a: u64, b: u64, c: u64, d: u64) -> u64
     ensures { λ r. ⌜ FromFour a b c d r ⌝ }
 {

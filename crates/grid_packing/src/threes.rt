@@ -1,4 +1,4 @@
-// Counters of three bits, which stand over the ends of bytes: their planes from sets, and their bytes.
+// Counters of three bits, which lie over the ends of bytes: their planes from sets, and their bytes.
 use crate::tally::back;
 use crate::tally::first;
 use crate::tally::front;

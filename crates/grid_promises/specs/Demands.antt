@@ -18,7 +18,7 @@ use Rattle.grid_promises.specs.declared.Answer.{Answer}
 
 -- ---- which counter is bad: what a read, a store and a conversion share
 
--- t is the index of the first of n counters that is above k, by the bits where they stand in the bytes: each before it is at most k
+-- t is the index of the first of n counters that is above k, by the bits where they are in the bytes: each before it is at most k
 pub record FirstAbove (k n : ℕ) (bs : List ℕ) (t : ℕ) : Type 0 where
   pub inside : t < n
   pub above : (x : ℕ) × Held (width k) bs t x × (k < x)
@@ -71,7 +71,7 @@ pub record BoundsLevels (answer : Answer) : Type 0 where
 
 -- ---- a plan
 
--- the bytes of n counters of w bits: so many as they need, and no spare bit is 1
+-- the bytes of n counters of w bits: as many as they need, and no spare bit is 1
 pub record WellFormed (w n : ℕ) (bs : List ℕ) : Type 0 where
   pub size : length bs ≡ bytesFor w n
   pub bytes : Below 256 bs

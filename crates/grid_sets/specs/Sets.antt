@@ -1,6 +1,6 @@
 -- Counters as sets of lines (rows or columns), a bit for each line: set s of counters has the lines whose counter is above s. So a counter is the number
 -- of sets that have its line, the smaller of two is the number of pairs of sets that have both lines, and the greatest the number of pairs of which one has a
--- line. None of these numbers depends on the order of the sets: those of a plan's levels stand the last level first. Assumes nothing.
+-- line. None of these numbers depends on the order of the sets: those of a plan's levels come with the last level first. Assumes nothing.
 use Prim.Native.Nat.{ℕ, _+_, _%_}
 use mathlib.Core.Bool.{Bool, not, cond, _&&_}
 use mathlib.Core.List.{List}

@@ -1,8 +1,8 @@
 // Counters as sets of lines and as planes: definitions (specs/) and laws (proofs/), and how many sets and lines there is room for. No code.
 
-// A block has at most so many rows, and so many columns.
+// The most rows, and the most columns, that a block has.
 pub const LINES: usize = 64;
-// There is room for so many sets of rows, and of columns, so that a larger K changes no shape.
+// The sets of rows, and of columns, that there is room for: a larger K changes no shape.
 pub const LEVELS: usize = 8;
 
 // What bytes hold: 0 or the number of the refusal, with refusal 4 the index of the first counter above K, and the sets of the rows' counters and of the

@@ -14,7 +14,7 @@ ghost use Rattle.pointer_promises.specs.Promises.{Read, Write};
 const ROW_CELLS: usize = 512;
 
 const ROW_BYTES: usize = 64;
-// A row has at most so many entries, and each has nine bits of pointer and its replacement bit.
+// The most entries of a row; each has nine bits of pointer and its replacement bit.
 const ENTRIES: usize = 10;
 
 const ENTRY_BITS: usize = 10;

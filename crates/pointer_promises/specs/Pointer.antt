@@ -27,7 +27,7 @@ entryOf p b = p + 512 * num b
 abbrev pub size : ℕ → ℕ
 size n = (1 + 10 * n + 7) / 8
 
--- entry e as it stands in the metadata
+-- entry e as it is in the metadata
 unfoldable pub entry : List ℕ → ℕ → ℕ
 entry m e = word 10 (λ k. at m (1 + 10 * e + k))
 

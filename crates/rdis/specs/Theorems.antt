@@ -94,7 +94,7 @@ StuckHeld = (b : Block) (r c : ℕ → ℕ) (i j : ℕ) → i < b .rows → j < 
 
 -- ---- 5. packing, over any width
 
--- the bytes bs hold the n counters cs: so many bytes as they need, with the spare bits 0
+-- the bytes bs hold the n counters cs: as many bytes as they need, with the spare bits 0
 pub record Packs (w n : ℕ) (cs bs : List ℕ) : Type 0 where
   pub size : length bs ≡ bytesFor w n
   pub bytes : Below 256 bs
@@ -105,7 +105,7 @@ pub record Packs (w n : ℕ) (cs bs : List ℕ) : Type 0 where
 abbrev pub PackedOnly : Type 0
 PackedOnly = (w n : ℕ) (cs bs : List ℕ) → length cs ≡ n → Below (2 ^ w) cs → Packs w n cs bs ↔ (bs ≡ packed w cs)
 
--- m bytes have room for n counters exactly if they are so many
+-- m bytes have room for n counters exactly if they are at least as many as these need
 abbrev pub FewestBytes : Type 0
 FewestBytes = (w n m : ℕ) → (w * n ≤ 8 * m) ↔ (bytesFor w n ≤ m)
 
