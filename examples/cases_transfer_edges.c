@@ -91,6 +91,21 @@ static void try_long_lumps(void)
     }
 }
 
+/* A reader that looks at no number of a lump: one frame of four comes twice, so the last does not fit. It is noted, and the finish answers 9. */
+static void try_careless_reader(void)
+{
+    struct sent g3 = send_g3();
+    struct reader r = new_reader(), before;
+    static const size_t cuts[][2] = {{0, 5}, {5, 10}, {5, 10}, {10, 17}};
+    int good;
+    ernavluq_transfer_start(&r.record, 2, 2, 3);
+    for (size_t i = 0; i < 4; i++)
+        ernavluq_transfer_lump(&r.record, g3.bytes + cuts[i][0], cuts[i][1] - cuts[i][0]);
+    before = r;
+    good = ernavluq_transfer_finish(&r.record, r.out, 2).number == ERNAVLUQ_LONG_BLOCK && memcmp(&r, &before, sizeof r) == 0;
+    report("A1  a frame comes twice, and nobody looks: 9 at the finish", good && stays(&r, 9));
+}
+
 /* A copy is a transfer of its own. */
 static void try_copies(void)
 {
@@ -160,6 +175,7 @@ void try_transfer_edges(void)
     try_starts();
     try_order();
     try_long_lumps();
+    try_careless_reader();
     try_copies();
     try_foreign_records();
     try_layout();

@@ -1,5 +1,5 @@
-/* Copy this for a receiver: blocks come over a cable one after another, in frames with a sequence number and a check sum. The cable drops frames, repeats them,
- * cuts them short and flips bits, and whole blocks are given up and sent again. At the end nothing was read wrong.
+/* Copy this for a receiver: blocks come over a cable one after another, in frames with a sequence number and a check sum, and each block has a check sum of its
+ * own. The cable drops frames, repeats them, cuts them short and flips bits, and is pulled out now and then. At the end nothing was read wrong.
  *
  *     ./run archive
  *     cc -std=c99 -Iinclude examples/receiver.c target/staticlib/$(uname -m)/libernavluq.a -o target/receiver && target/receiver
@@ -10,7 +10,7 @@
 #include "ernavluq.h"
 
 /* Blocks of 16 readings with 24 bits each. A frame carries at most 32 of a block's bytes. */
-enum { ROWS = 16, COLUMNS = 24, K = 3, BLOCKS = 200, LOAD = 32 };
+enum { ROWS = 16, COLUMNS = 24, K = 3, BLOCKS = 200, LOAD = 32, TRIES = 5 };
 enum { COUNTERS = ERNAVLUQ_COUNTER_BYTES(ROWS, COLUMNS, K), BLOCK = ERNAVLUQ_BLOCK_BYTES(ROWS, COLUMNS, K) };
 
 /* ---- what goes over the cable. `at` is the place of the first byte in its block: it is what puts frames in order, and shows one that is repeated or lost. */
@@ -19,6 +19,7 @@ struct frame {
     uint32_t block;   /* the number of the block */
     uint16_t at;      /* where its bytes begin in the block */
     uint16_t length;  /* how many they are */
+    uint32_t whole;   /* the check sum of rows, columns, K and all bytes of the block */
     uint8_t load[LOAD];
     uint32_t sum;     /* the check sum of all of these */
 };
@@ -33,9 +34,17 @@ static uint32_t add_to_sum(uint32_t sum, uint64_t value, int bytes)
 
 static uint32_t sum_of(const struct frame *f)
 {
-    uint32_t sum = add_to_sum(add_to_sum(add_to_sum(0xFFFFFFFFu, f->block, 4), f->at, 2), f->length, 2);
+    uint32_t sum = add_to_sum(add_to_sum(add_to_sum(add_to_sum(0xFFFFFFFFu, f->block, 4), f->at, 2), f->length, 2), f->whole, 4);
     for (size_t i = 0; i < LOAD; i++)
         sum = add_to_sum(sum, f->load[i], 1);
+    return ~sum;
+}
+
+static uint32_t sum_of_block(size_t rows, size_t columns, size_t k, const uint8_t *bytes, size_t length)
+{
+    uint32_t sum = add_to_sum(add_to_sum(add_to_sum(0xFFFFFFFFu, rows, 1), columns, 1), k, 1);
+    for (size_t i = 0; i < length; i++)
+        sum = add_to_sum(sum, bytes[i], 1);
     return ~sum;
 }
 
@@ -76,7 +85,8 @@ static int store_a_block(struct stored *s)
 
 static struct frame frame_of(uint32_t block, size_t at)
 {
-    struct frame f = {block, (uint16_t)at, (uint16_t)(BLOCK - at < LOAD ? BLOCK - at : LOAD), {0}, 0};
+    struct frame f = {block, (uint16_t)at, (uint16_t)(BLOCK - at < LOAD ? BLOCK - at : LOAD), 0, {0}, 0};
+    f.whole = sum_of_block(ROWS, COLUMNS, K, stored[block].bytes, BLOCK);
     memcpy(f.load, stored[block].bytes + at, f.length);
     f.sum = sum_of(&f);
     return f;
@@ -105,44 +115,61 @@ static int through_the_cable(struct frame *f)
 struct receiver {
     ernavluq_transfer transfer;
     uint32_t block;         /* the block that is on its way */
+    uint32_t whole;         /* its check sum, as the last frame had it */
+    size_t tries;           /* how often all of it came and could not be used */
     uint64_t out[ROWS];
     size_t accepted, wrong; /* blocks that were read, and blocks whose data is not what was stored */
-    size_t ignored;         /* frames with a bad sum, and frames that do not follow */
+    size_t given_up;        /* blocks that could not be used, however often they came */
+    size_t ignored;         /* frames with a bad length or sum, and frames that do not follow */
 };
+
+static void expect_again(struct receiver *r)
+{
+    ernavluq_transfer_start(&r->transfer, ROWS, COLUMNS, K);
+}
 
 static void expect_block(struct receiver *r, uint32_t block)
 {
     r->block = block;
-    ernavluq_transfer_start(&r->transfer, ROWS, COLUMNS, K);
+    r->tries = 0;
+    expect_again(r);
 }
 
-/* A frame that is damaged or does not follow is not taken: the next byte is still the one that is missing. */
+/* A frame that is damaged or does not follow is not taken: the next byte is still the one that is missing. Its length is looked at first, because what is in
+ * it comes from outside. */
 static void frame_comes(struct receiver *r, const struct frame *f)
 {
-    if (f->sum != sum_of(f) || f->block != r->block || f->at != r->transfer.taken) {
+    if (f->length > LOAD || f->sum != sum_of(f) || f->block != r->block || f->at != r->transfer.taken) {
         r->ignored++;
         return;
     }
+    r->whole = f->whole;
     ernavluq_transfer_lump(&r->transfer, f->load, f->length);
 }
 
-/* All bytes are there: the block is read, or given up and asked for anew. The answer says whether to go on to the next block. */
-static int block_is_there(struct receiver *r)
+/* All bytes are there. The block is used only if its own check sum is right too. Else it is asked for anew, some times, and then given up. */
+static void block_is_there(struct receiver *r)
 {
-    ernavluq_grid_read_answer read = ernavluq_transfer_finish(&r->transfer, r->out, ROWS);
-    if (read.number != ERNAVLUQ_ACCEPTED) {
-        printf("block %u: refused with number %zu: %s\n", (unsigned)r->block, read.number, ernavluq_in_words(read.number));
-        expect_block(r, r->block);
-        return 0;
+    const ernavluq_transfer *t = &r->transfer;
+    ernavluq_grid_read_answer read = ernavluq_transfer_finish(t, r->out, ROWS);
+    if (read.number == ERNAVLUQ_ACCEPTED && r->whole == sum_of_block(t->rows, t->columns, t->k, t->bytes, t->taken)) {
+        r->accepted++;
+        r->wrong += memcmp(r->out, stored[r->block].data, sizeof r->out) != 0;
+        expect_block(r, r->block + 1);
+        return;
     }
-    r->accepted++;
-    r->wrong += memcmp(r->out, stored[r->block].data, sizeof r->out) != 0;
-    return 1;
+    printf("block %u came and was not used: %s\n", (unsigned)r->block, read.number ? ernavluq_in_words(read.number) : "its check sum is wrong");
+    if (++r->tries < TRIES) {
+        expect_again(r);
+        return;
+    }
+    r->given_up++;
+    expect_block(r, r->block + 1);
 }
 
 int main(void)
 {
-    struct receiver r = {{0}, 0, {0}, 0, 0, 0};
+    static struct receiver r;
     size_t dropped = 0;
     for (uint32_t block = 0; block < BLOCKS; block++)
         if (!store_a_block(&stored[block]))
@@ -153,14 +180,13 @@ int main(void)
         ernavluq_transfer_missing_answer missing = ernavluq_transfer_missing(&r.transfer);
         struct frame f;
         if (missing.number == ERNAVLUQ_ACCEPTED && missing.bytes == 0) {
-            if (block_is_there(&r))
-                expect_block(&r, r.block + 1);
+            block_is_there(&r);
             continue;
         }
         /* Now and then the cable is pulled out for long, and the block is asked for from its first byte. */
         if (missing.number != ERNAVLUQ_ACCEPTED || any(100) == 0) {
             dropped++;
-            expect_block(&r, r.block);
+            expect_again(&r);
             continue;
         }
         f = frame_of(r.block, r.transfer.taken);
@@ -170,7 +196,7 @@ int main(void)
     printf("%d blocks of %d bytes in frames: %zu came whole, %zu were lost, %zu repeated, %zu had a bit flipped, %zu were cut\n", BLOCKS, BLOCK,
         mishaps[NONE], mishaps[LOST], mishaps[REPEATED], mishaps[FLIPPED], mishaps[CUT]);
     printf("%zu frames were ignored\n", r.ignored);
-    printf("%zu blocks were given up and begun anew\n", dropped);
-    printf("%zu blocks were read, %zu of them wrong\n", r.accepted, r.wrong);
+    printf("%zu times the cable was pulled out in the middle of a block\n", dropped);
+    printf("%zu blocks were read, %zu of them wrong; %zu were given up\n", r.accepted, r.wrong, r.given_up);
     return r.accepted == BLOCKS && r.wrong == 0 && r.ignored > 0 ? 0 : 1;
 }

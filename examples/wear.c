@@ -1,5 +1,5 @@
-/* Copy this for memory that wears out: rows and blocks are written again and again, and their cells die one by one until no repair is left. Each write goes through
- * the loop write, program, read back, and every refusal is handled. It says how many stuck cells it took, and at the end that nothing was read wrong.
+/* Copy this for memory that wears out: rows and blocks are written again and again, and their cells die one by one until no repair is left. Each write goes
+ * through the loop write, program, read back, and every refusal is handled. It says how many stuck cells it took, and at the end that nothing was read wrong.
  *
  *     ./run archive
  *     cc -std=c99 -O2 -Iinclude examples/wear.c target/staticlib/$(uname -m)/libernavluq.a -o target/wear && target/wear
@@ -18,7 +18,7 @@ static uint32_t any(uint32_t below)
     return (uint32_t)(state >> 33) % below;
 }
 
-/* Refusals 1 to 5 say that this program passed something wrong, or that what it keeps was damaged. There is nothing to repair then: it stops, and says what. */
+/* Other refusals say that this program passed something wrong, or that what it keeps was damaged, which does not happen here: it stops, and says what. */
 static void stop(const char *call, size_t number)
 {
     printf("%s: refused with number %zu: %s\n", call, number, ernavluq_in_words(number));
@@ -73,19 +73,23 @@ struct row {
     uint8_t metadata[ERNAVLUQ_METADATA_BYTES(ERNAVLUQ_MAX_ENTRIES)];
 };
 
-/* Writes until the row shows what was programmed. The answer says whether it can hold the data; else it is worn out for it. */
+/* Writes until the row shows what was programmed. It works on a copy of the metadata, which is kept only once the cells are programmed: so a row that is
+ * refused before that still reads as it did. The answer says whether it can hold the data; else it is worn out for it. */
 static int write_row(struct row *r, const uint8_t *data)
 {
     enum { LENGTH = ERNAVLUQ_ROW_BYTES };
-    size_t kept = ERNAVLUQ_METADATA_BYTES(r->n), number;
-    uint8_t cells[LENGTH];
+    size_t length = ERNAVLUQ_METADATA_BYTES(r->n), number;
+    uint8_t cells[LENGTH], metadata[sizeof r->metadata];
     int from_zeros = 0;
     for (;;) {
+        if (from_zeros)
+            memset(metadata, 0, length);
+        else
+            memcpy(metadata, r->metadata, length);
         number = ernavluq_pointer_write(
-            r->n, data, LENGTH, r->known.mask, LENGTH, r->known.values, LENGTH, cells, LENGTH, r->metadata, kept).number;
+            r->n, data, LENGTH, r->known.mask, LENGTH, r->known.values, LENGTH, cells, LENGTH, metadata, length).number;
         if (number == ERNAVLUQ_NO_ENTRY_LEFT && !from_zeros) {
             /* Entries of earlier data stay active. From zeros the row needs only those for this data. */
-            memset(r->metadata, 0, kept);
             from_zeros = 1;
             continue;
         }
@@ -94,6 +98,7 @@ static int write_row(struct row *r, const uint8_t *data)
         if (number != ERNAVLUQ_ACCEPTED)
             stop("pointer write", number);
         program(&r->memory, cells, LENGTH);
+        memcpy(r->metadata, metadata, length);
         if (!find_stuck(&r->memory, cells, &r->known, LENGTH))
             return 1;
     }
@@ -131,33 +136,36 @@ static void to_bytes(const uint64_t *words, uint8_t *bytes, size_t count)
         bytes[i] = (uint8_t)(words[i / 8] >> 8 * (i % 8));
 }
 
-/* Plans at the smallest K that masks what is known, from the block's own K up. */
-static int plan_block(struct block *b, const uint64_t *data, const uint64_t *mask, const uint64_t *values)
+/* Plans into spare counters, at the smallest K that masks what is known, from `from` up to the limit. The answer is that K, or 0. */
+static size_t plan_block(const struct block *b, size_t from, const uint64_t *data, const uint64_t *mask, const uint64_t *values, uint8_t *spare)
 {
-    for (; b->k <= b->limit; b->k++) {
-        size_t m = b->lines, length = ERNAVLUQ_COUNTER_BYTES(m, m, b->k);
-        size_t number = ernavluq_grid_plan(m, m, b->k, data, m, mask, m, values, m, b->counters, length).number;
+    size_t m = b->lines;
+    for (size_t k = from; k <= b->limit; k++) {
+        size_t number = ernavluq_grid_plan(m, m, k, data, m, mask, m, values, m, spare, ERNAVLUQ_COUNTER_BYTES(m, m, k)).number;
         if (number == ERNAVLUQ_ACCEPTED)
-            return 1;
+            return k;
         if (number != ERNAVLUQ_UNMASKABLE)
             stop("grid plan", number);
     }
     return 0;
 }
 
-/* Stores by the counters that there are. If by them a stuck cell would read wrong, it plans new ones. */
+/* Stores by a copy of the kept counters. If by them a stuck cell would read wrong, or if they are damaged, it plans new ones. Counters and K are kept only
+ * once the cells are programmed: so a block that is refused before that still reads as it did. */
 static int write_block(struct block *b, const uint64_t *data)
 {
     uint64_t mask[ERNAVLUQ_MAX_ROWS], values[ERNAVLUQ_MAX_ROWS], cells[ERNAVLUQ_MAX_ROWS];
-    uint8_t programmed[BYTES];
-    size_t m = b->lines;
+    uint8_t programmed[BYTES], counters[ERNAVLUQ_MAX_COUNTER_BYTES];
+    size_t m = b->lines, k = b->k;
+    memcpy(counters, b->counters, sizeof counters);
     for (;;) {
-        size_t length = ERNAVLUQ_COUNTER_BYTES(m, m, b->k), number;
+        size_t number;
         to_words(b->known.mask, mask, m);
         to_words(b->known.values, values, m);
-        number = ernavluq_grid_store(m, m, b->k, data, m, mask, m, values, m, b->counters, length, cells, m).number;
-        if (number == ERNAVLUQ_MISREAD) {
-            if (!plan_block(b, data, mask, values))
+        number = ernavluq_grid_store(m, m, k, data, m, mask, m, values, m, counters, ERNAVLUQ_COUNTER_BYTES(m, m, k), cells, m).number;
+        if (number == ERNAVLUQ_MISREAD || number == ERNAVLUQ_MALFORMED) {
+            k = plan_block(b, k, data, mask, values, counters);
+            if (k == 0)
                 return 0;
             continue;
         }
@@ -165,6 +173,8 @@ static int write_block(struct block *b, const uint64_t *data)
             stop("grid store", number);
         to_bytes(cells, programmed, m);
         program(&b->memory, programmed, 8 * m);
+        memcpy(b->counters, counters, sizeof counters);
+        b->k = k;
         if (!find_stuck(&b->memory, programmed, &b->known, 8 * m))
             return 1;
     }
@@ -181,31 +191,36 @@ static int block_shows(const struct block *b, const uint64_t *data)
     return memcmp(out, data, m * sizeof *out) == 0;
 }
 
-/* ---- until they are worn out: new data at each write, and after it one cell more dies */
+/* ---- until they are worn out: new data at each write, and after it one cell more dies. What is refused before anything was programmed leaves the old data. */
 
 static size_t wrong;
 
 static size_t wear_out_a_row(size_t n)
 {
-    static struct row row;
-    uint8_t data[ERNAVLUQ_ROW_BYTES];
+    static struct row row, before;
+    uint8_t data[ERNAVLUQ_ROW_BYTES], old[ERNAVLUQ_ROW_BYTES] = {0};
     memset(&row, 0, sizeof row);
     row.n = n;
     for (;;) {
         uint32_t p = any(8 * ERNAVLUQ_ROW_BYTES);
         for (size_t i = 0; i < sizeof data; i++)
             data[i] = (uint8_t)any(256);
-        if (!write_row(&row, data))
+        before = row;
+        if (!write_row(&row, data)) {
+            if (memcmp(row.memory.cells, before.memory.cells, sizeof row.memory.cells) == 0)
+                wrong += !row_shows(&row, old);
             return ones(row.memory.dead);
+        }
         wrong += !row_shows(&row, data);
+        memcpy(old, data, sizeof old);
         row.memory.dead[p / 8] |= (uint8_t)(1u << p % 8);
     }
 }
 
 static size_t wear_out_a_block(size_t lines, size_t limit)
 {
-    static struct block block;
-    uint64_t data[ERNAVLUQ_MAX_ROWS];
+    static struct block block, before;
+    uint64_t data[ERNAVLUQ_MAX_ROWS], old[ERNAVLUQ_MAX_ROWS] = {0};
     memset(&block, 0, sizeof block);
     block.lines = lines;
     block.k = 1;
@@ -214,9 +229,14 @@ static size_t wear_out_a_block(size_t lines, size_t limit)
         uint32_t p = 64 * any((uint32_t)lines) + any((uint32_t)lines);
         for (size_t i = 0; i < lines; i++)
             data[i] = ((uint64_t)any(1u << 31) << 33 ^ (uint64_t)any(1u << 31) << 16 ^ any(1u << 16)) >> (64 - lines);
-        if (!write_block(&block, data))
+        before = block;
+        if (!write_block(&block, data)) {
+            if (memcmp(block.memory.cells, before.memory.cells, sizeof block.memory.cells) == 0)
+                wrong += !block_shows(&block, old);
             return ones(block.memory.dead);
+        }
         wrong += !block_shows(&block, data);
+        memcpy(old, data, sizeof old);
         block.memory.dead[p / 8] |= (uint8_t)(1u << p % 8);
     }
 }
@@ -239,7 +259,7 @@ int main(void)
 {
     static const size_t entries[] = {1, 2, 4, 6, 10}, lines[] = {8, 16, 64}, limits[] = {1, 3, 7};
     size_t stuck[TIMES];
-    char what[40];
+    char what[80];
     printf("stuck cells when the first data was refused, of %d rows or blocks:\n\n| %-28s | least | median | most |\n|---|---:|---:|---:|\n", TIMES, "");
     for (size_t i = 0; i < sizeof entries / sizeof *entries; i++) {
         for (size_t t = 0; t < TIMES; t++)

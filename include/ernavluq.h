@@ -271,7 +271,7 @@ typedef struct {
     size_t rows;                             /* the three numbers that the start was given */
     size_t columns;
     size_t k;
-    size_t taken;                            /* the bytes taken since; a lump that is refused with 9 sets it to 561, which no block has */
+    size_t taken;                            /* the bytes taken since; the first lump that is refused with 9 sets it to 561, which no block has */
     uint8_t bytes[ERNAVLUQ_MAX_BLOCK_BYTES]; /* those bytes; behind them zeros, or what was there in a transfer that no start made */
 } ernavluq_transfer;
 ERNAVLUQ_HAS_SIZE(ernavluq_transfer, 592);

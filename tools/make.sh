@@ -4,7 +4,10 @@
 set -eu
 cd "$(dirname "$0")/.."
 release=$(sed -n 's/^#define ERNAVLUQ_RELEASE \([0-9]*\)$/\1/p' include/ernavluq.h)
-release=${release:-2}
+[ -n "$release" ] || {
+    echo "tools/make.sh: include/ernavluq.h does not say ERNAVLUQ_RELEASE" >&2
+    exit 1
+}
 [ "${1:-}" != --release ] || {
     echo "$release"
     exit

@@ -4,7 +4,7 @@ use Rattle.fragment_promises.proofs.StepLaws.{one-start, one-lump, one-
 use Rattle.fragment_promises.proofs.FinishLaws.{one-finish, one-finish-by-demands, finish-measured}
 use Rattle.fragment_promises.proofs.MissingLaws.{one-missing, one-missing-by-demands, missing-lowest}
 use Rattle.fragment_promises.proofs.SequenceLaws.{as-defined, every-lump, every-finish, every-missing}
-use Rattle.fragment_promises.proofs.CuttingLaws.{whole-block, sent-block, store-then-send, wrong-output, short-block, long-block, bad-block, none-missing, some-missing, every-start, ever-after, not-taken, joined-lumps, two-cuttings, any-cutting, empty-lump, finish-between, starts-afresh, stays}
+use Rattle.fragment_promises.proofs.CuttingLaws.{whole-block, sent-block, store-then-send, wrong-output, short-block, long-block, bad-block, none-missing, some-missing, missing-fits, every-start, ever-after, not-taken, joined-lumps, two-cuttings, any-cutting, empty-lump, finish-between, starts-afresh, stays}
 use Rattle.fragment_promises.proofs.LayoutLaws.{words-read}
 
 pub claims : Claims
@@ -34,6 +34,7 @@ claims = record {
   bad = bad-block;
   noneMissing = none-missing;
   someMissing = some-missing;
+  missingFits = missing-fits;
   everyStart = every-start;
   everAfter = ever-after;
   notTaken = not-taken;

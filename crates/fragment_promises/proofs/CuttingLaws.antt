@@ -8,7 +8,7 @@ use native.Mathlib.Omega.{arith}
 use lib.ListN.{length}
 use Rattle.bits.specs.Bits.{Below}
 use Rattle.bits.proofs.FirstLaws.{hit, miss, missed}
-use Rattle.bits.proofs.TestLaws.{iff-stable}
+use Rattle.bits.proofs.TestLaws.{iff-stable, lt-or-le}
 use Rattle.grid_promises.specs.Promises.{Read}
 use Rattle.grid_promises.specs.Refusals.{InRange}
 use Rattle.grid_promises.specs.declared.ReadAnswer.{ReadAnswer}
@@ -17,10 +17,10 @@ use Rattle.grid_promises.proofs.ByDemands.{store-exactly}
 use Rattle.grid_promises.proofs.RefusalLaws.{in-range, store-accepted}
 use Rattle.grid_promises.proofs.StoreDemands.{store-range, store-lengths, store-demands}
 use Rattle.fragment_promises.specs.declared.MissingAnswer.{MissingAnswer}
-use Rattle.fragment_promises.specs.Transfers.{counterBytes, size, wordBytes}
+use Rattle.fragment_promises.specs.Transfers.{counterBytes, size, sizeOf, wordBytes}
 use Rattle.fragment_promises.specs.Demands.{FinishDemands, MissingDemands}
 use Rattle.fragment_promises.specs.Sequences.{lump, none, starts, takes, ends, asks, Story, begun, tell, story}
-use Rattle.fragment_promises.specs.Sequences.{Whole, Sent, StoreThenSend, RefusedWith, Short, Long, Bad, lumps, joined, Joined, NoneMissing, SomeMissing, TwoCuttings, AnyCutting, EmptyLump, FinishBetween, StartsAfresh, EveryStart, Nine, EverAfter, NotTaken, WrongOutput, Refused, Stays}
+use Rattle.fragment_promises.specs.Sequences.{Whole, Sent, StoreThenSend, RefusedWith, Short, Long, Bad, lumps, joined, Joined, NoneMissing, SomeMissing, MissingFits, TwoCuttings, AnyCutting, EmptyLump, FinishBetween, StartsAfresh, EveryStart, Nine, EverAfter, NotTaken, WrongOutput, Refused, Stays}
 use Rattle.fragment_promises.proofs.BlockLaws.{counters-back, cells-back, block-length, block-below}
 use Rattle.fragment_promises.proofs.FinishLaws.{demands-read, one-finish-by-demands}
 use Rattle.fragment_promises.proofs.StepLaws.{refused-number, lump-unchanged, lump-empty}
@@ -126,6 +126,13 @@ some-missing t u m n k es a c d z out b after f o l =
     let h = story (begun m n k) es in
     let e = every-missing t u m n k es a c d in
     short-block t u m n k es out b after c f (fine (h .rows) (h .columns) (h .k) (length (h .sent)) a e z) o (omega (arith, e .completes z))
+
+pub missing-fits : MissingFits
+missing-fits t u bs x a f z d =
+    let fits = miss (d .first) (λ h. h (fine (t .rows) (t .columns) (t .k) (t .taken) a f z)) in (
+      λ e. ⊎-elim (λ l. absurd (omega (arith, hit fits l))) (λ l. omega (arith, f .completes z)) (lt-or-le (sizeOf t) (t .taken + length bs)),
+      λ l. missed (miss fits (λ h. omega (arith, f .completes z))),
+    )
 
 -- ---- what does not count
 

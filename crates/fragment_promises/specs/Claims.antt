@@ -1,6 +1,6 @@
 -- Every theorem of this crate, a field each: proofs/Claims.antt has the value, so a theorem without a proof fails the check. Assumes nothing.
 use Rattle.fragment_promises.specs.Promises.{OneStart, OneLump, OneFinish, OneMissing, OneStartByDemands, OneLumpByDemands, OneFinishByDemands, OneMissingByDemands, StartLowest, LumpLowest, MissingLowest, FinishMeasured}
-use Rattle.fragment_promises.specs.Sequences.{AsDefined, EveryLump, EveryFinish, EveryMissing, Whole, Sent, StoreThenSend, WrongOutput, Short, Long, Bad, NoneMissing, SomeMissing, EveryStart, EverAfter, NotTaken, Joined, TwoCuttings, AnyCutting, EmptyLump, FinishBetween, StartsAfresh, Stays}
+use Rattle.fragment_promises.specs.Sequences.{AsDefined, EveryLump, EveryFinish, EveryMissing, Whole, Sent, StoreThenSend, WrongOutput, Short, Long, Bad, NoneMissing, SomeMissing, MissingFits, EveryStart, EverAfter, NotTaken, Joined, TwoCuttings, AnyCutting, EmptyLump, FinishBetween, StartsAfresh, Stays}
 use Rattle.fragment_promises.specs.Layout.{WordsRead}
 
 pub record Claims : Type 0 where
@@ -29,6 +29,7 @@ pub record Claims : Type 0 where
   pub bad : Bad
   pub noneMissing : NoneMissing
   pub someMissing : SomeMissing
+  pub missingFits : MissingFits
   pub everyStart : EveryStart
   pub everAfter : EverAfter
   pub notTaken : NotTaken

@@ -3,7 +3,7 @@
 use Prim.Native.Nat.{ℕ, _+_, _<_, _≤_, _^_}
 use mathlib.Core.Path.{_≡_}
 use mathlib.Core.List.{List, [], _∷_, _++_}
-use mathlib.Core.Logic.{_⊎_, _≢_}
+use mathlib.Core.Logic.{_↔_, _⊎_, _≢_}
 use lib.ListN.{length}
 use Rattle.bits.specs.Bits.{Below}
 use Rattle.bits.specs.First.{_when_, First}
@@ -169,6 +169,11 @@ NoneMissing = AfterMissing (λ bytes h out b after. bytes ≡ 0 → Below 256 (h
 -- some: 8
 abbrev pub SomeMissing : Type 0
 SomeMissing = AfterMissing (λ bytes h out b after. 0 < bytes → RefusedWith 8 out b after)
+
+-- and, whoever made the record, which lumps fit: those of at most that many bytes, and no longer one
+abbrev pub MissingFits : Type 0
+MissingFits =
+    (t u : Transfer) (bs : List ℕ) (x : ℕ) (a : MissingAnswer) → MissesBy t a → a .number ≡ 0 → LumpDemands t bs x u → (x ≡ 0) ↔ (length bs ≤ a .bytes)
 
 -- ---- 1 at the start, and 9 there and ever after
 
