@@ -10,7 +10,7 @@
 #include "ernavluq.h"
 
 /* Blocks of 16 readings with 24 bits each. A frame carries at most 32 of a block's bytes. */
-enum { ROWS = 16, COLUMNS = 24, K = 3, BLOCKS = 200, LOAD = 32, TRIES = 5 };
+enum { ROWS = 16, COLUMNS = 24, K = 3, BLOCKS = 200, LOAD = 32, TRIES = 5, ASKED = 100 };
 enum { COUNTERS = ERNAVLUQ_COUNTER_BYTES(ROWS, COLUMNS, K), BLOCK = ERNAVLUQ_BLOCK_BYTES(ROWS, COLUMNS, K) };
 
 /* ---- what goes over the cable. `at` is the place of the first byte in its block: it is what puts frames in order, and shows one that is repeated or lost. */
@@ -83,6 +83,7 @@ static int store_a_block(struct stored *s)
     return planned.number == ERNAVLUQ_ACCEPTED && done.number == ERNAVLUQ_ACCEPTED;
 }
 
+/* A sender checks first that the block and the place it is asked for are there: here the receiver is this program, and asks for nothing else. */
 static struct frame frame_of(uint32_t block, size_t at)
 {
     struct frame f = {block, (uint16_t)at, (uint16_t)(BLOCK - at < LOAD ? BLOCK - at : LOAD), 0, {0}, 0};
@@ -116,7 +117,8 @@ struct receiver {
     ernavluq_transfer transfer;
     uint32_t block;         /* the block that is on its way */
     uint32_t whole;         /* its check sum, as the last frame had it */
-    size_t tries;           /* how often all of it came and could not be used */
+    size_t tries;           /* how often it could not be used */
+    size_t asked;           /* how often its next byte was asked for and did not come */
     uint64_t out[ROWS];
     size_t accepted, wrong; /* blocks that were read, and blocks whose data is not what was stored */
     size_t given_up;        /* blocks that could not be used, however often they came */
@@ -125,6 +127,7 @@ struct receiver {
 
 static void expect_again(struct receiver *r)
 {
+    r->asked = 0;
     ernavluq_transfer_start(&r->transfer, ROWS, COLUMNS, K);
 }
 
@@ -145,26 +148,36 @@ static void frame_comes(struct receiver *r, const struct frame *f)
     }
     r->whole = f->whole;
     ernavluq_transfer_lump(&r->transfer, f->load, f->length);
+    if (f->length > 0)
+        r->asked = 0;
 }
 
-/* All bytes are there. The block is used only if its own check sum is right too. Else it is asked for anew, some times, and then given up. */
-static void block_is_there(struct receiver *r)
+/* The block cannot be used: it is asked for anew, some times, and then given up. */
+static void not_used(struct receiver *r, const char *why)
 {
-    const ernavluq_transfer *t = &r->transfer;
-    ernavluq_grid_read_answer read = ernavluq_transfer_finish(t, r->out, ROWS);
-    if (read.number == ERNAVLUQ_ACCEPTED && r->whole == sum_of_block(t->rows, t->columns, t->k, t->bytes, t->taken)) {
-        r->accepted++;
-        r->wrong += memcmp(r->out, stored[r->block].data, sizeof r->out) != 0;
-        expect_block(r, r->block + 1);
-        return;
-    }
-    printf("block %u came and was not used: %s\n", (unsigned)r->block, read.number ? ernavluq_in_words(read.number) : "its check sum is wrong");
+    printf("block %u was not used: %s\n", (unsigned)r->block, why);
     if (++r->tries < TRIES) {
         expect_again(r);
         return;
     }
     r->given_up++;
     expect_block(r, r->block + 1);
+}
+
+/* All bytes are there. The block is used only if its own check sum is right too. */
+static void block_is_there(struct receiver *r)
+{
+    const ernavluq_transfer *t = &r->transfer;
+    ernavluq_grid_read_answer read = ernavluq_transfer_finish(t, r->out, ROWS);
+    if (read.number != ERNAVLUQ_ACCEPTED) {
+        not_used(r, ernavluq_in_words(read.number));
+    } else if (r->whole != sum_of_block(t->rows, t->columns, t->k, t->bytes, t->taken)) {
+        not_used(r, "its check sum is wrong");
+    } else {
+        r->accepted++;
+        r->wrong += memcmp(r->out, stored[r->block].data, sizeof r->out) != 0;
+        expect_block(r, r->block + 1);
+    }
 }
 
 int main(void)
@@ -183,8 +196,13 @@ int main(void)
             block_is_there(&r);
             continue;
         }
+        /* A refusal is noted, or the sender has no byte left: its rows, columns or K may be others. */
+        if (missing.number != ERNAVLUQ_ACCEPTED || ++r.asked > ASKED) {
+            not_used(&r, ernavluq_in_words(missing.number ? missing.number : ERNAVLUQ_SHORT_BLOCK));
+            continue;
+        }
         /* Now and then the cable is pulled out for long, and the block is asked for from its first byte. */
-        if (missing.number != ERNAVLUQ_ACCEPTED || any(100) == 0) {
+        if (any(100) == 0) {
             dropped++;
             expect_again(&r);
             continue;
@@ -196,7 +214,7 @@ int main(void)
     printf("%d blocks of %d bytes in frames: %zu came whole, %zu were lost, %zu repeated, %zu had a bit flipped, %zu were cut\n", BLOCKS, BLOCK,
         mishaps[NONE], mishaps[LOST], mishaps[REPEATED], mishaps[FLIPPED], mishaps[CUT]);
     printf("%zu frames were ignored\n", r.ignored);
-    printf("%zu times the cable was pulled out in the middle of a block\n", dropped);
+    printf("%zu times the cable was pulled out for long\n", dropped);
     printf("%zu blocks were read, %zu of them wrong; %zu were given up\n", r.accepted, r.wrong, r.given_up);
     return r.accepted == BLOCKS && r.wrong == 0 && r.ignored > 0 ? 0 : 1;
 }
