@@ -1,1 +1,2 @@
 // Definitions (specs/) and laws (proofs/) of bits, words, digits and bytes. No code.
+#![tactic(auto)]

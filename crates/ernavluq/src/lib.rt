@@ -1,6 +1,8 @@
 // The calls for programs in C and Rust, in the archive libernavluq.a. Each promises what the call behind it does; include/ernavluq.h declares them.
 // Their names have a prefix, because nothing keeps an exported name apart from those of the C library, and the release behind it: what was compiled for another
 // release does not link. Callers write the plain names, which the header maps.
+#![tactic(auto)]
+
 ghost use Rattle.pointer_promises.specs.Promises as Pointer;
 ghost use Rattle.grid_promises.specs.Promises as Grid;
 ghost use Rattle.grid_promises.specs.Calls.{block};

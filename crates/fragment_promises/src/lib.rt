@@ -1,4 +1,5 @@
 // What is handed from call to call where a grid block arrives in lumps. Its meaning and what the calls promise is in specs/, their code in the crate fragments.
+#![tactic(auto)]
 
 // The longest block: 48 bytes of counters, and 64 words of 8 bytes.
 pub const LONGEST: usize = 560;

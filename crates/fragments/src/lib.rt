@@ -1,5 +1,7 @@
 // A grid read of a block that arrives in lumps: a start, lumps of bytes cut anywhere, and a finish, which is the read of the joined bytes.
 // `start_at`, `lump_at` and `finish_at` are lent the fields of a transfer and copy none of them; `start`, `lump` and `finish` take and return a whole one.
+#![tactic(auto)]
+
 mod whole;
 
 ghost use Rattle.std.specs.Prelude.{◌≡◌, [], min, length, take};

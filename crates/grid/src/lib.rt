@@ -1,4 +1,6 @@
 // Grid blocks: a grid of cells, one word a row, and a counter for each row and each column.
+#![tactic(auto)]
+
 mod shows;
 mod stores;
 

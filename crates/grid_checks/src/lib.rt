@@ -1,4 +1,6 @@
 // What is judged before a block is worked on: numbers, lengths, and bits past the last column. Each function answers for every argument.
+#![tactic(auto)]
+
 ghost use Rattle.std.specs.Prelude.{◌≡◌, not, ◌&&◌, ◌||◌, ℕ, ◌^◌, leb, length};
 ghost use Rattle.grid_promises.specs.Calls.{past};
 ghost use Rattle.grid_checks.specs.Numbers.{judged, read_judged, plan_judged, store_judged, convert_judged};

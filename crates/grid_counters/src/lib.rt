@@ -1,4 +1,6 @@
 // A block's counters read from bytes: which counters bytes hold, as sets of lines, and (in conversion) those at another K.
+#![tactic(auto)]
+
 pub mod conversion;
 mod judge;
 mod planes;

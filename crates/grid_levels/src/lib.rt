@@ -1,5 +1,7 @@
 // The plan of a grid block: the levels that mask its faults, as counters. And what a store counts as a plan does: the rows that hold a stuck cell, and the wrong
 // cells of one.
+#![tactic(auto)]
+
 mod levels;
 mod stuck;
 

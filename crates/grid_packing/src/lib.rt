@@ -1,4 +1,6 @@
 // A block's counters written as bytes: those of the levels of a plan, and those whose planes are given.
+#![tactic(auto)]
+
 mod fill;
 mod ones;
 mod tally;

@@ -1,4 +1,6 @@
 // Inversion by the sets of a block's counters, whoever made them: a row's pattern is the XOR of the columns' sets over those numbers whose rows' set has the row.
+#![tactic(auto)]
+
 ghost use Rattle.std.specs.Prelude.{◌≡◌, ◌&&◌, ◌^◌, ◌≤◌, ◌<◌, length};
 ghost use Rattle.std.specs.Bool.{xor};
 ghost use Rattle.bits.specs.Bits.{has, words, Below};

@@ -1,4 +1,5 @@
 // What the four calls on grid blocks answer. Their meaning and what they promise is in specs/, their code in the crate grid.
+#![tactic(auto)]
 
 // What a read answers: 0 or the number of the refusal, and with refusal 4 the index of the first counter above K.
 #[repr(C)]

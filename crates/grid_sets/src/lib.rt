@@ -1,4 +1,5 @@
 // Counters as sets of lines and as planes: definitions (specs/) and laws (proofs/), and how many sets and lines there is room for. No code.
+#![tactic(auto)]
 
 // The most rows, and the most columns, that a block has.
 pub const LINES: usize = 64;

@@ -1,5 +1,7 @@
 // The sizes of a grid block: which rows, columns and K are in range, how many bits a counter has, and how many bytes counters take. Each function answers for
 // every argument.
+#![tactic(auto)]
+
 ghost use Rattle.std.specs.Prelude.{◌≡◌, cond, leb};
 ghost use Rattle.rdis.specs.Packing.{width as width_of, bytes_for};
 ghost use Rattle.grid_sets.specs.Promises.{fit, roomy as is_roomy};

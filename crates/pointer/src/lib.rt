@@ -1,4 +1,6 @@
 // Pointer rows (document 000 as document 01 reads it): 512 cells, n correction entries and a full bit.
+#![tactic(auto)]
+
 mod octets; // bits of single bytes
 mod decode; // from metadata to entries
 mod plan; // what a write is to store

@@ -1,4 +1,6 @@
 // The refusals of documents 01 and 02, by name. 0 is the number of an accepted call.
+#![tactic(auto)]
+
 pub const ACCEPTED: usize = 0;
 // n, the rows, the columns or K lie outside their range.
 pub const OUT_OF_RANGE: usize = 1;

@@ -1,4 +1,6 @@
 // Small functions on words, on bytes that make words, and on the bytes of a word. Each public one answers for every argument.
+#![tactic(auto)]
+
 mod stores;
 
 ghost use Rattle.std.specs.Prelude.{◌≡◌, true, cond, ◌+◌, ◌*◌, ◌^◌, ◌≤◌, ◌<◌, min, eqb, length, get_or, take, drop};
