@@ -24,14 +24,14 @@ pub struct Converted {
 }
 
 // Bit 0 and bit 1 of 64 counters: bit i of a word is that of counter i.
-#[derive(Drop)]
+#[derive(Clone, Copy)]
 pub struct Planes {
     pub low: u64,
     pub high: u64,
 }
 
 // The same with bit 2. Apart from the others: most counters have at most two bits, and two words are passed in registers.
-#[derive(Drop)]
+#[derive(Clone, Copy)]
 pub struct Threes {
     pub planes: Planes,
     pub top: u64,
