@@ -87,9 +87,9 @@ pub fn descend(
     rows: &mut [u64; LEVELS],
     columns: &mut [u64; LEVELS],
 ) -> usize
-    requires rows { (Rows «data».now.now mask.now.now values.now.now) × (taken < 2 ^ length «data».now.now) }
-    requires allowed_bound { (at + allowed ≤ 8) × (length rows.old ≡ 8) × (length columns.old ≡ 8) }
-    ensures { Planned «data».now.now mask.now.now values.now.now (record { rows = taken; columns = across }) wrong allowed at rows.entry.now columns.old rows.exit.now columns.new result }
+    requires well_lent { (Rows «data».now.now mask.now.now values.now.now) × (taken < 2 ^ length «data».now.now) }
+    requires room { (at + allowed ≤ 8) × (length rows.old ≡ 8) × (length columns.old ≡ 8) }
+    ensures { Planned «data».now.now mask.now.now values.now.now (record { rows = taken; columns = across }) wrong allowed at rows.old columns.old rows.new columns.new result }
 {
     if taken == 0 {
         return 0;
