@@ -105,8 +105,8 @@ fn store_by(
     apart: &mut [u64],
     cells: &mut [u64],
 ) -> Answer
-    requires store_sized { StoreSized columns k «data».now mask.now values.now counters.now cells.old }
-    requires values_value { (plan_past (block (length «data».now) columns «data».now mask.now values.now) ≡ false) × (length apart.old ≡ length «data».now) }
+    requires sized { StoreSized columns k «data».now mask.now values.now counters.now cells.old }
+    requires inside { (plan_past (block (length «data».now) columns «data».now mask.now values.now) ≡ false) × (length apart.old ≡ length «data».now) }
     ensures { Store (block (length «data».now) columns «data».now mask.now values.now) k counters.now cells.old result cells.new }
 {
     let s = shows::show_sized(columns, k, k, data, counters, apart);

@@ -28,7 +28,10 @@ pub slice_bounds-store_by-end : goal.slice_bounds-store_by-end
 slice_bounds-store_by-end c = sym (lent (goal.at.slice_bounds-store_by-end c).Start)
 
 pub store_by-requires : goal.store_by-requires
-store_by-requires c = (c.requires, (not-true _ (sym c.all_within.ensures ∙ not-false _ c.if-not-all_within.false-raw), lent (goal.at.store_by-requires c).Start))
+store_by-requires c = record {
+  sized = c.requires;
+  inside = (not-true _ (sym c.all_within.ensures ∙ not-false _ c.if-not-all_within.false-raw), lent (goal.at.store_by-requires c).Start);
+}
 
 pub returns : goal.returns
 returns c = c.store_by.ensures
