@@ -1,0 +1,11 @@
+use mathlib.Core.Path.{sym, subst}
+use Rattle.fragment_promises.specs.Transfers.{started}
+use Rattle.fragment_promises.specs.Promises.{Start}
+use Rattle.fragment_promises.proofs.StepLaws.{start_promise}
+use Rattle.fragments.proofs.start.Goals as goal
+
+pub returns : goal.returns
+returns c =
+    let a = c.args in
+    subst (λ x. Start a.rows a.columns a.k x (started a.rows a.columns a.k)) (sym c.standing-number.ensures)
+    (start_promise a.rows a.columns a.k)
