@@ -1,6 +1,0 @@
-mod Param
-mod LentField
-mod LentAll
-mod LentBytes
-mod SharedBytes
-mod SharedNumbers
