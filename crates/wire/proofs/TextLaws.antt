@@ -9,12 +9,11 @@ use native.Mathlib.Omega.{arith}
 use native.Mathlib.Decide.{dec_lt}
 use lib.Dec.{ltb}
 use lib.ListN.{length, take, drop, set, length-append, length-take, length-drop, take-append-drop, drop_of_length-le}
-use lib.Seq.{take_all, take-length, drop-length, drop-drop, set_split, drop_at, length-take-le, take_at}
+use lib.Seq.{take_all, drop-length, drop-drop, set_split, drop_at, length-take-le, take_at}
 use borrow.Author.Tests.{lt-ltb, le-ltb}
 use borrow.Rule.Slice.PartMut.{put_mid, mid_of}
-use Rattle.io.specs.Digits.{hex_digit_ascii, last_digits}
 use Rattle.wire.proofs.PartLaws.{take_least, again}
-use Rattle.wire.specs.Text.{hex_of, decimals, decimal, fitting, Put}
+use Rattle.wire.specs.Text.{hex_digit_ascii, last_digits, hex_of, decimals, decimal, fitting, Put}
 
 -- ---- text put into a buffer
 
@@ -113,7 +112,7 @@ all_fits text buffer p h = take_all (length buffer - p) text (omega arith)
 
 -- the first n bytes of a text were copied to the front of what there is from place p on
 pub put_copied : (text out : List ℕ) (p n : ℕ) {part : List ℕ} {r : ℕ} → p ≤ length out → n ≡ min (length out - p) (length text) → r ≡ length (take n text)
-    → part ≡ take (length (take n text)) (take n text) ++ drop (length (take n text)) (mid_of p (length out - p) out) → Put text out p (put_mid p (length out - p) out part) (p + r)
+    → part ≡ take n text ++ drop (length (take n text)) (mid_of p (length out - p) out) → Put text out p (put_mid p (length out - p) out part) (p + r)
 unfolding fitting
 put_copied text out p n {part} {r} l e f g =
     let k : ℕ = length out - p in
@@ -122,7 +121,7 @@ put_copied text out p n {part} {r} l e f g =
     let nothing : drop k (drop p out) ≡ [] = drop_of_length-le (drop p out) {i = k} (rw length-drop (omega arith)) in
     let fit = take_least text k n e in
     let rest : drop n (drop p out) ≡ drop (p + r) out = drop-drop n p out ∙ ap (λ i. drop (p + i) out) (sym (f ∙ m)) in
-    let here : part ≡ take k text ++ drop (p + r) out = g ∙ ap₂ ◌++◌ (take-length (take n text) ∙ fit) (ap₂ drop m whole ∙ rest) in
+    let here : part ≡ take k text ++ drop (p + r) out = g ∙ ap₂ ◌++◌ fit (ap₂ drop m whole ∙ rest) in
     record { end = ap (λ i. p + i) (f ∙ ap length fit); holds = ap (λ x. take p out ++ x) (ap₂ ◌++◌ here nothing ∙ append-nil (take k text ++ drop (p + r) out)) }
 
 -- there is no second answer

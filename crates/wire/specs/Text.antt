@@ -1,6 +1,14 @@
 -- Text as ASCII codes: numbers in decimal and in hexadecimal digits, and how text is put into a buffer. Assumes nothing.
 use Rattle.std.specs.Prelude.{◌≡◌, cond, List, [], ◌∷◌, ◌++◌, ℕ, zero, suc, ◌+◌, ◌-◌, ◌/◌, ◌%◌, ltb, length, take, drop}
-use Rattle.io.specs.Digits.{hex_digit_ascii, last_digits}
+
+-- the ASCII code of a digit below 16: 0 to 9, then a to f
+abbrev pub hex_digit_ascii : ℕ → ℕ
+hex_digit_ascii d = cond (ltb d 10) (48 + d) (87 + d)
+
+-- the last k digits of n in base b, the highest first
+abbrev pub last_digits : ℕ → ℕ → ℕ → List ℕ
+last_digits b zero n = []
+last_digits b (suc k) n = last_digits b k (n / b) ++ (hex_digit_ascii (n % b) ∷ [])
 
 -- the last n digits of x to the base 16, the highest first
 unfoldable pub hex_of : ℕ → ℕ → List ℕ

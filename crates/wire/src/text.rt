@@ -1,7 +1,6 @@
 // Text, put into a buffer from a place on, as much of it as there is room for. Each function answers where its text ends.
-ghost use Rattle.std.specs.Prelude.{◌≡◌, [], ◌∷◌, ◌<◌, min, length};
-ghost use Rattle.io.specs.Digits.{hex_digit_ascii};
-ghost use Rattle.wire.specs.Text.{hex_of, decimal, Put};
+ghost use Rattle.std.specs.Prelude.{◌≡◌, [], ◌∷◌, ◌++◌, ◌<◌, ◌≤◌, min, length, drop};
+ghost use Rattle.wire.specs.Text.{hex_digit_ascii, hex_of, decimal, Put};
 
 use words::least;
 
@@ -36,6 +35,16 @@ fn put_byte(out: &mut [u8], at: usize, b: u8) -> usize
     at + 1
 }
 
+// Copies all bytes to the front, and answers how many.
+pub fn copy(from: &[u8], into: &mut [u8]) -> usize
+    requires { length from.now ≤ length into.old }
+    ensures end { result ≡ length from.now }
+    ensures holds { into.new ≡ from.now ++ drop (length from.now) into.old }
+{
+    into[..from.len()].copy_from_slice(from);
+    from.len()
+}
+
 // Bytes as they are.
 pub fn put(out: &mut [u8], at: usize, text: &[u8]) -> usize
     ensures { Put text.now out.old at out.new result }
@@ -44,7 +53,7 @@ pub fn put(out: &mut [u8], at: usize, text: &[u8]) -> usize
         return at;
     }
     let n = least(out.len() - at, text.len());
-    at + bytes::copy(&text[..n], &mut out[at..])
+    at + copy(&text[..n], &mut out[at..])
 }
 
 // A number in decimal.
