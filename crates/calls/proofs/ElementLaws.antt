@@ -39,9 +39,8 @@ unfolding buffer_of
 few_of h e = rw (e, length_elements) (held_stands h refl).few
 
 -- what copying a list to the front of a room leaves there
-pub copied : (n : ℕ) (xs room : List ℕ) {after : List ℕ} → n ≡ length xs → after ≡ take (length xs) xs ++ drop (length xs) room → take n after ≡ xs
-copied n xs room e f =
-    ap₂ take e f ∙ take_at (take (length xs) xs) (drop (length xs) room) (length xs) (length-take-le (length xs) xs (omega arith)) ∙ take-length xs
+pub copied : (n : ℕ) (xs room : List ℕ) {after : List ℕ} → n ≡ length xs → after ≡ xs ++ drop (length xs) room → take n after ≡ xs
+copied n xs room e f = ap₂ take e f ∙ take_at xs (drop (length xs) room) (length xs) refl
 
 -- the words before the i-th
 abbrev pub words_to : List ℕ → ℕ → ℕ → List ℕ

@@ -152,19 +152,11 @@ small_form tag = small_at table refl tag
 pub small_by : {f : Form} (tag : ℕ) → f ≡ form_of tag → Small f
 small_by tag e = subst Small (sym e) (small_form tag)
 
--- a tag that is none of 1 to n
-abbrev NoneTo : ℕ → ℕ → Type 0
-NoneTo zero tag = Unit {0}
-NoneTo (suc n) tag = NoneTo n tag × (tag ≡ suc n → ⊥)
-
-past : (n tag : ℕ) → NoneTo n tag → 0 < tag → n < tag
-past zero tag h l = l
-past (suc n) tag (h, k) l = let p = past n tag h l in omega arith
-
-pub no_form_lem : (tag : ℕ) → NoneTo 7 tag → no_form ≡ form_of tag
+-- a tag that is none of 1 to 7
+pub no_form_lem : (tag : ℕ) → (0 < tag → 7 < tag) → no_form ≡ form_of tag
 unfolding form_of table
 no_form_lem zero h = refl
-no_form_lem (suc tag) h = sym (get_or-eq_default table no_form {n = suc tag} (past 7 (suc tag) h (omega arith)))
+no_form_lem (suc tag) h = sym (get_or-eq_default table no_form {n = suc tag} (h (omega arith)))
 
 -- the end of a call, whichever way it is judged
 pub form_cases : (bs : List ℕ) (f : Form) (P : ℕ → Type 0) → P (place_of bs f f.buffers) → P 0 → P (form_end bs f)

@@ -22,7 +22,7 @@ use Rattle.calls.specs.Scripts.{next, Stepped, lump, start, finish, After, start
 pub start_small : (m n k x : ℕ) (u : Transfer) → Start m n k x u → x < 256
 start_small m n k x u h = first_under 256 _ _ (lit< tt, lit< tt) h.demands.first
 
-pub step_small : {m n k b used used' x : ℕ} {bytes out after : List ℕ} {t u : Transfer} → Stepped m n k bytes b t used out x u used' after → x < 256
+pub step_small : {bytes out after : List ℕ} {m n k b used used' x : ℕ} {t u : Transfer} → Stepped m n k bytes b t used out x u used' after → x < 256
 step_small (lump _ l) = first_under 256 _ _ (lit< tt, (lit< tt, lit< tt)) l.demands.first
 step_small (start _ h) = start_small _ _ _ _ _ h
 step_small (finish _ f _) = first_under 256 _ _ (lit< tt, (lit< tt, (lit< tt, (lit< tt, (lit< tt, (lit< tt, lit< tt)))))) f.demands.first
@@ -44,14 +44,14 @@ lump_step {m} {n} {k} {used} {b} {x} {bytes} {out} {t} {u} c p q r l e h =
     subst (λ more. Stepped m n k bytes b t used out x u (used + more) out) (next_length bytes used b ∙ sym e)
     (lump (omega arith) (subst (λ bs. Lump t bs x u) (lump_part bytes used b c l e) h))
 
-step_length : {m n k b used used' x : ℕ} {bytes out after : List ℕ} {t u : Transfer} → Stepped m n k bytes b t used out x u used' after → length after ≡ length out
+step_length : {bytes out after : List ℕ} {m n k b used used' x : ℕ} {t u : Transfer} → Stepped m n k bytes b t used out x u used' after → length after ≡ length out
 step_length (lump _ _) = refl
 step_length (start _ _) = refl
 step_length (finish _ _ l) = l
 
 -- no more bytes are used than there are
-step_within : {m n k b used used' x : ℕ} {bytes out after : List ℕ} {t u : Transfer} → Stepped m n k bytes b t used out x u used' after → used ≤ length bytes → used' ≤ length bytes
-step_within {b = b} {used = used} {bytes = bytes} (lump _ l) h = omega (arith, next_length bytes used b)
+step_within : {bytes out after : List ℕ} {m n k b used used' x : ℕ} {t u : Transfer} → Stepped m n k bytes b t used out x u used' after → used ≤ length bytes → used' ≤ length bytes
+step_within {bytes = bytes} {b = b} {used = used} (lump _ l) h = omega (arith, next_length bytes used b)
 step_within (start _ _) h = h
 step_within (finish _ _ _) h = h
 
@@ -104,7 +104,7 @@ module _ {m n k : ℕ} {bytes script before : List ℕ} where
 
 -- ---- no second end
 
-one_step : {m n k b used p p' x x' : ℕ} {bytes out after after' : List ℕ} {t u u' : Transfer} → Stepped m n k bytes b t used out x u p after
+one_step : {bytes out after after' : List ℕ} {m n k b used p p' x x' : ℕ} {t u u' : Transfer} → Stepped m n k bytes b t used out x u p after
     → Stepped m n k bytes b t used out x' u' p' after' → (x ≡ x') × (u ≡ u') × (p ≡ p') × (after ≡ after')
 one_step (lump _ h) (lump _ g) = let (e, f) = one_lump _ _ _ _ _ _ h g in (e, f, refl, refl)
 one_step (start _ h) (start _ g) = let (e, f) = one_start _ _ _ _ _ _ _ h g in (e, f, refl, refl)
@@ -141,7 +141,7 @@ module _ {m n k : ℕ} {bytes script out : List ℕ} where
 
 -- ---- how long the output and the numbers are
 
-after_lengths : {m n k i used : ℕ} {bytes script out now numbers : List ℕ} {t : Transfer} → After m n k bytes script out i t used now numbers
+after_lengths : {m n k : ℕ} {bytes script out : List ℕ} {i used : ℕ} {now numbers : List ℕ} {t : Transfer} → After m n k bytes script out i t used now numbers
     → (length now ≡ length out) × (length numbers ≡ suc i)
 after_lengths (started h) = (refl, refl)
 after_lengths (stepped {numbers = numbers} a _ d) =

@@ -2,7 +2,7 @@
 -- are in the bytes in the order of the table in docs/CALLS.md, and what the text shows is what the entry point promises of them. Assumes nothing.
 use Rattle.std.specs.Prelude.{◌≡◌, List, [], ◌∷◌, ◌++◌, ℕ, length, get_or}
 use Rattle.pointer_promises.specs.Promises as pointer
-use Rattle.pointer_promises.specs.declared.ReadAnswer as pointer_read
+use Rattle.pointer_promises.specs.declared.ReadAnswer as pointer_answer
 use Rattle.pointer_promises.specs.declared.WriteAnswer.{WriteAnswer}
 use Rattle.grid_promises.specs.Promises as grid
 use Rattle.grid_promises.specs.Calls.{block}
@@ -28,7 +28,7 @@ pub data LineBy : ℕ → List ℕ → List (List ℕ) → List ℕ → Type 0 w
       → pointer.Write n wanted mask values cells metadata a cells' metadata' → length cells' ≡ length cells → length metadata' ≡ length metadata
       → LineBy 1 (n ∷ []) (wanted ∷ mask ∷ values ∷ cells ∷ metadata ∷ [])
       (line a.number (a.active ∷ a.new ∷ []) (bytes_text cells' ∷ bytes_text metadata' ∷ []))
-  pointer_read : {n : ℕ} {cells metadata out out' : List ℕ} {a : pointer_read.ReadAnswer}
+  pointer_read : {n : ℕ} {cells metadata out out' : List ℕ} {a : pointer_answer.ReadAnswer}
       → pointer.Read n cells metadata out a out' → length out' ≡ length out
       → LineBy 2 (n ∷ []) (cells ∷ metadata ∷ out ∷ [])
       (line a.number [] (bytes_text out' ∷ []))

@@ -4,6 +4,7 @@ ghost use Rattle.bits.specs.Bits.{list};
 ghost use Rattle.calls.specs.Format.{call_number, after_numbers, after_buffer, is_over, form, form_of, place, form_end};
 ghost use Rattle.calls.specs.Format.{has_none, has_over, is_bad, Found, Held, buffer_of};
 
+use wire::text::copy;
 use words::number_at;
 
 // A buffer of a call has no more elements.
@@ -18,7 +19,7 @@ pub fn call_number(s: &[u8], i: usize) -> usize
 }
 
 // A grid's rows and columns and its K.
-#[derive(Drop)]
+#[derive(Clone, Copy)]
 pub struct Sizes {
     pub rows: usize,
     pub columns: usize,
@@ -199,7 +200,7 @@ pub fn load_bytes<'a>(s: &[u8], tag: u8, i: usize, room: &'a mut [u8]) -> &'a mu
     requires in_bounds { 1024 ≤ length room.old }
     ensures { result.now ≡ buffer_of s.now tag i }
 {
-    let n = bytes::copy(elements(s, tag, i), room);
+    let n = copy(elements(s, tag, i), room);
     &mut room[..n]
 }
 

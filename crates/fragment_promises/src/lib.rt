@@ -7,7 +7,7 @@ pub const LONGEST: usize = 560;
 // A block on its way: what its start was told, how many of its bytes were taken, and these bytes first. More bytes taken than the block has says that a lump was
 // refused. So every value of it has a meaning, also one that no call made.
 #[repr(C)]
-#[derive(Drop)]
+#[derive(Clone, Copy)]
 pub struct Transfer {
     pub rows: usize,
     pub columns: usize,

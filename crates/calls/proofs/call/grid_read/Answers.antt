@@ -1,0 +1,30 @@
+use mathlib.Core.List.{[], ◌∷◌}
+use lib.Dec.{lit≤}
+use borrow.Author.Rules.{rules}
+use Rattle.bits.specs.Bits.{list}
+use Rattle.calls.specs.Format.{table, form_of}
+use Rattle.calls.specs.Calls.{grid_read}
+use Rattle.calls.proofs.FormatLaws.{held}
+use Rattle.calls.proofs.TextLaws.{put_next}
+use Rattle.calls.proofs.CallLaws.{put_made}
+use Rattle.calls.proofs.call.grid_read.Goals as goal
+
+pub load_words-cells-requires : goal.load_words-cells-requires
+unfolding table form_of list
+load_words-cells-requires c = record { held = held 4 0 (search rules); in_bounds = lit≤ tt }
+
+pub elements-counters-requires : goal.elements-counters-requires
+unfolding table form_of list
+elements-counters-requires c = held 4 1 (search rules)
+
+pub load_words-shown-requires : goal.load_words-shown-requires
+unfolding table form_of list
+load_words-shown-requires c = record { held = held 4 2 (search rules); in_bounds = lit≤ tt }
+
+pub returns : goal.returns
+unfolding table form_of list
+returns c =
+    let r = c.read-r in
+    put_made c.requires (grid_read r.ensures r.auto.out) c.call_sizes-z.ensures
+    (λ i. c.load_words-cells.ensures i ∷ c.elements-counters.ensures i ∷ c.load_words-shown.ensures i ∷ [])
+    (put_next _ _ _ c.put_answer-end.ensures c.put_words.ensures)

@@ -1,0 +1,39 @@
+use mathlib.Core.List.{[], ◌∷◌}
+use lib.Dec.{lit≤}
+use borrow.Author.Rules.{rules}
+use Rattle.bits.specs.Bits.{list}
+use Rattle.calls.specs.Format.{table, form_of}
+use Rattle.calls.specs.Calls.{grid_store}
+use Rattle.calls.proofs.FormatLaws.{held}
+use Rattle.calls.proofs.TextLaws.{put_next}
+use Rattle.calls.proofs.CallLaws.{put_made}
+use Rattle.calls.proofs.call.grid_store.Goals as goal
+
+pub load_words-wanted-requires : goal.load_words-wanted-requires
+unfolding table form_of list
+load_words-wanted-requires c = record { held = held 5 0 (search rules); in_bounds = lit≤ tt }
+
+pub load_words-mask-requires : goal.load_words-mask-requires
+unfolding table form_of list
+load_words-mask-requires c = record { held = held 5 1 (search rules); in_bounds = lit≤ tt }
+
+pub load_words-values-requires : goal.load_words-values-requires
+unfolding table form_of list
+load_words-values-requires c = record { held = held 5 2 (search rules); in_bounds = lit≤ tt }
+
+pub elements-counters-requires : goal.elements-counters-requires
+unfolding table form_of list
+elements-counters-requires c = held 5 3 (search rules)
+
+pub load_words-cells-requires : goal.load_words-cells-requires
+unfolding table form_of list
+load_words-cells-requires c = record { held = held 5 4 (search rules); in_bounds = lit≤ tt }
+
+pub returns : goal.returns
+unfolding table form_of list
+returns c =
+    let r = c.store-r in
+    put_made c.requires (grid_store r.ensures r.auto.cells) c.call_sizes-z.ensures
+    (λ i.
+    c.load_words-wanted.ensures i ∷ c.load_words-mask.ensures i ∷ c.load_words-values.ensures i ∷ c.elements-counters.ensures i ∷ c.load_words-cells.ensures i ∷ [])
+    (put_next _ _ _ c.put_answer-end.ensures c.put_words.ensures)

@@ -1,0 +1,18 @@
+use mathlib.Core.Path.{◌∙◌}
+use Prim.Native.Nat.{◌-◌}
+use Rattle.calls.proofs.TextLaws.{none_yet, one_more_lem, put_first}
+use Rattle.calls.proofs.print.put_answer.Goals as goal
+
+-- The loop has put the first i figures.
+
+pub loop-i-init : goal.loop-i-init
+loop-i-init c = none_yet
+
+pub loop-i-preserved : goal.loop-i-preserved
+loop-i-preserved c = let h = c.put_count-end in one_more_lem c.loop-i.invariant c.loop-i-test.true h.auto.out h.ensures
+
+pub shape_of-out : goal.shape_of-out
+shape_of-out c = c.loop-i.invariant.long ∙ c.put_number-end.auto.out
+
+pub returns : goal.returns
+returns c = put_first _ _ c.put_number-end.ensures c.loop-i.invariant c.loop-i-test.false
