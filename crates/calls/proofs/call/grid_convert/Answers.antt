@@ -9,17 +9,13 @@ use Rattle.calls.proofs.TextLaws.{put_next}
 use Rattle.calls.proofs.CallLaws.{put_made}
 use Rattle.calls.proofs.call.grid_convert.Goals as goal
 
-pub call_number-target-requires : goal.call_number-target-requires
-unfolding table form_of list
-call_number-target-requires c = lit≤ tt
-
 pub elements-counters-requires : goal.elements-counters-requires
 unfolding table form_of list
 elements-counters-requires c = held 6 0 (search rules)
 
-pub load_bytes-converted-requires : goal.load_bytes-converted-requires
+pub load_bytes-converted-requires-clause-held : goal.load_bytes-converted-requires-clause-held
 unfolding table form_of list
-load_bytes-converted-requires c = record { held = held 6 1 (search rules); in_bounds = lit≤ tt }
+load_bytes-converted-requires-clause-held c = held 6 1 (search rules)
 
 pub returns : goal.returns
 unfolding table form_of list

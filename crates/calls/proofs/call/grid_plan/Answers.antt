@@ -9,21 +9,21 @@ use Rattle.calls.proofs.TextLaws.{put_next}
 use Rattle.calls.proofs.CallLaws.{put_made}
 use Rattle.calls.proofs.call.grid_plan.Goals as goal
 
-pub load_words-wanted-requires : goal.load_words-wanted-requires
+pub load_words-wanted-requires-clause-held : goal.load_words-wanted-requires-clause-held
 unfolding table form_of list
-load_words-wanted-requires c = record { held = held 3 0 (search rules); in_bounds = lit≤ tt }
+load_words-wanted-requires-clause-held c = held 3 0 (search rules)
 
-pub load_words-mask-requires : goal.load_words-mask-requires
+pub load_words-mask-requires-clause-held : goal.load_words-mask-requires-clause-held
 unfolding table form_of list
-load_words-mask-requires c = record { held = held 3 1 (search rules); in_bounds = lit≤ tt }
+load_words-mask-requires-clause-held c = held 3 1 (search rules)
 
-pub load_words-values-requires : goal.load_words-values-requires
+pub load_words-values-requires-clause-held : goal.load_words-values-requires-clause-held
 unfolding table form_of list
-load_words-values-requires c = record { held = held 3 2 (search rules); in_bounds = lit≤ tt }
+load_words-values-requires-clause-held c = held 3 2 (search rules)
 
-pub load_bytes-counters-requires : goal.load_bytes-counters-requires
+pub load_bytes-counters-requires-clause-held : goal.load_bytes-counters-requires-clause-held
 unfolding table form_of list
-load_bytes-counters-requires c = record { held = held 3 3 (search rules); in_bounds = lit≤ tt }
+load_bytes-counters-requires-clause-held c = held 3 3 (search rules)
 
 pub returns : goal.returns
 unfolding table form_of list

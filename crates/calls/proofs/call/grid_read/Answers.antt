@@ -9,17 +9,17 @@ use Rattle.calls.proofs.TextLaws.{put_next}
 use Rattle.calls.proofs.CallLaws.{put_made}
 use Rattle.calls.proofs.call.grid_read.Goals as goal
 
-pub load_words-cells-requires : goal.load_words-cells-requires
+pub load_words-cells-requires-clause-held : goal.load_words-cells-requires-clause-held
 unfolding table form_of list
-load_words-cells-requires c = record { held = held 4 0 (search rules); in_bounds = lit≤ tt }
+load_words-cells-requires-clause-held c = held 4 0 (search rules)
 
 pub elements-counters-requires : goal.elements-counters-requires
 unfolding table form_of list
 elements-counters-requires c = held 4 1 (search rules)
 
-pub load_words-shown-requires : goal.load_words-shown-requires
+pub load_words-shown-requires-clause-held : goal.load_words-shown-requires-clause-held
 unfolding table form_of list
-load_words-shown-requires c = record { held = held 4 2 (search rules); in_bounds = lit≤ tt }
+load_words-shown-requires-clause-held c = held 4 2 (search rules)
 
 pub returns : goal.returns
 unfolding table form_of list

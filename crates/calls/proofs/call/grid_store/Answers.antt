@@ -9,25 +9,25 @@ use Rattle.calls.proofs.TextLaws.{put_next}
 use Rattle.calls.proofs.CallLaws.{put_made}
 use Rattle.calls.proofs.call.grid_store.Goals as goal
 
-pub load_words-wanted-requires : goal.load_words-wanted-requires
+pub load_words-wanted-requires-clause-held : goal.load_words-wanted-requires-clause-held
 unfolding table form_of list
-load_words-wanted-requires c = record { held = held 5 0 (search rules); in_bounds = lit≤ tt }
+load_words-wanted-requires-clause-held c = held 5 0 (search rules)
 
-pub load_words-mask-requires : goal.load_words-mask-requires
+pub load_words-mask-requires-clause-held : goal.load_words-mask-requires-clause-held
 unfolding table form_of list
-load_words-mask-requires c = record { held = held 5 1 (search rules); in_bounds = lit≤ tt }
+load_words-mask-requires-clause-held c = held 5 1 (search rules)
 
-pub load_words-values-requires : goal.load_words-values-requires
+pub load_words-values-requires-clause-held : goal.load_words-values-requires-clause-held
 unfolding table form_of list
-load_words-values-requires c = record { held = held 5 2 (search rules); in_bounds = lit≤ tt }
+load_words-values-requires-clause-held c = held 5 2 (search rules)
 
 pub elements-counters-requires : goal.elements-counters-requires
 unfolding table form_of list
 elements-counters-requires c = held 5 3 (search rules)
 
-pub load_words-cells-requires : goal.load_words-cells-requires
+pub load_words-cells-requires-clause-held : goal.load_words-cells-requires-clause-held
 unfolding table form_of list
-load_words-cells-requires c = record { held = held 5 4 (search rules); in_bounds = lit≤ tt }
+load_words-cells-requires-clause-held c = held 5 4 (search rules)
 
 pub returns : goal.returns
 unfolding table form_of list

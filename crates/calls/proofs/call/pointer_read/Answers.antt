@@ -9,10 +9,6 @@ use Rattle.calls.proofs.TextLaws.{put_next}
 use Rattle.calls.proofs.CallLaws.{put_made}
 use Rattle.calls.proofs.call.pointer_read.Goals as goal
 
-pub call_number-n-requires : goal.call_number-n-requires
-unfolding table form_of list
-call_number-n-requires c = lit≤ tt
-
 pub elements-cells-requires : goal.elements-cells-requires
 unfolding table form_of list
 elements-cells-requires c = held 2 0 (search rules)
@@ -21,9 +17,9 @@ pub elements-metadata-requires : goal.elements-metadata-requires
 unfolding table form_of list
 elements-metadata-requires c = held 2 1 (search rules)
 
-pub load_bytes-shown-requires : goal.load_bytes-shown-requires
+pub load_bytes-shown-requires-clause-held : goal.load_bytes-shown-requires-clause-held
 unfolding table form_of list
-load_bytes-shown-requires c = record { held = held 2 2 (search rules); in_bounds = lit≤ tt }
+load_bytes-shown-requires-clause-held c = held 2 2 (search rules)
 
 pub returns : goal.returns
 unfolding table form_of list

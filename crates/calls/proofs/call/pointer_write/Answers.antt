@@ -9,10 +9,6 @@ use Rattle.calls.proofs.TextLaws.{put_next}
 use Rattle.calls.proofs.CallLaws.{put_made}
 use Rattle.calls.proofs.call.pointer_write.Goals as goal
 
-pub call_number-n-requires : goal.call_number-n-requires
-unfolding table form_of list
-call_number-n-requires c = lit≤ tt
-
 pub elements-wanted-requires : goal.elements-wanted-requires
 unfolding table form_of list
 elements-wanted-requires c = held 1 0 (search rules)
@@ -25,13 +21,13 @@ pub elements-values-requires : goal.elements-values-requires
 unfolding table form_of list
 elements-values-requires c = held 1 2 (search rules)
 
-pub load_bytes-cells-requires : goal.load_bytes-cells-requires
+pub load_bytes-cells-requires-clause-held : goal.load_bytes-cells-requires-clause-held
 unfolding table form_of list
-load_bytes-cells-requires c = record { held = held 1 3 (search rules); in_bounds = lit≤ tt }
+load_bytes-cells-requires-clause-held c = held 1 3 (search rules)
 
-pub load_bytes-metadata-requires : goal.load_bytes-metadata-requires
+pub load_bytes-metadata-requires-clause-held : goal.load_bytes-metadata-requires-clause-held
 unfolding table form_of list
-load_bytes-metadata-requires c = record { held = held 1 4 (search rules); in_bounds = lit≤ tt }
+load_bytes-metadata-requires-clause-held c = held 1 4 (search rules)
 
 pub returns : goal.returns
 unfolding table form_of list

@@ -19,9 +19,9 @@ pub elements-script-requires : goal.elements-script-requires
 unfolding table form_of list
 elements-script-requires c = held 7 1 (search rules)
 
-pub load_words-shown-requires : goal.load_words-shown-requires
+pub load_words-shown-requires-clause-held : goal.load_words-shown-requires-clause-held
 unfolding table form_of list
-load_words-shown-requires c = record { held = held 7 2 (search rules); in_bounds = lit≤ tt }
+load_words-shown-requires-clause-held c = held 7 2 (search rules)
 
 pub front-steps-requires : goal.front-steps-requires
 unfolding table form_of list

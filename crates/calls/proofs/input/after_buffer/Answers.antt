@@ -8,17 +8,8 @@ returns-then-at-eq0 c = no_buffer _ _ _ (λ h. h.place c.if-at-eq0.true)
 pub returns-then-n-gt-MOST_ELEMENTS : goal.returns-then-n-gt-MOST_ELEMENTS
 returns-then-n-gt-MOST_ELEMENTS c = no_buffer _ _ _ (λ h. omega (arith, h.few, c.number_at-n.ensures, c.if-n-gt-MOST_ELEMENTS.true))
 
-pub overflow_mul-size : goal.overflow_mul-size
-overflow_mul-size c = omega (arith, small _ _ c.requires c.if-n-gt-MOST_ELEMENTS.false)
-
-pub overflow_add-size : goal.overflow_add-size
-overflow_add-size c = omega (arith, small _ _ c.requires c.if-n-gt-MOST_ELEMENTS.false)
-
 pub returns-then-not-reaches : goal.returns-then-not-reaches
 returns-then-not-reaches c = buffer_cut _ _ _ c.number_at-n.ensures c.reaches.ensures c.if-not-reaches.true
-
-pub overflow_add-result : goal.overflow_add-result
-overflow_add-result c = omega (arith, buffer_fits _ _ _ c.number_at-n.ensures c.reaches.ensures c.if-not-reaches.false)
 
 pub returns : goal.returns
 returns c = buffer_done _ _ _ c.number_at-n.ensures c.reaches.ensures c.if-at-eq0.false c.if-n-gt-MOST_ELEMENTS.false c.if-not-reaches.false

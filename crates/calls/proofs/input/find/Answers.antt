@@ -17,8 +17,3 @@ after_buffer-at-requires c = (small_by _ c.form_of-f.ensures).widths _
 
 pub loop-j-preserved : goal.loop-j-preserved
 loop-j-preserved c = (omega arith, found_next _ _ _ c.loop-j.invariant.1 c.is_over-over.ensures c.after_buffer-at.ensures)
-
-pub returns : goal.returns
-returns c =
-    let e : c.loop-j.j ≡ c.args.i = omega arith in
-    found_last _ c.form_of-f.ensures e c.loop-j.invariant.1

@@ -3,6 +3,3 @@ use Rattle.calls.proofs.input.has_over.Goals as goal
 
 pub find-found-requires : goal.find-found-requires
 find-found-requires c = (small_by _ c.form_of-f.ensures).buffers
-
-pub returns : goal.returns
-returns c = over_done _ _ _ c.form_of-f.ensures c.find-found.ensures.over

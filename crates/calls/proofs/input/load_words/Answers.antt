@@ -23,9 +23,6 @@ loop-j-init c =
 pub loop-j-preserved : goal.loop-j-preserved
 loop-j-preserved c = let v = c.loop-j.invariant in (omega arith, rw length-set v.1, v.2, words_more _ _ _ _ _ (omega arith) c.number_at.ensures v.3)
 
-pub slice_bounds-result-end : goal.slice_bounds-result-end
-slice_bounds-result-end c = sym (length-take-le _ _ (omega arith))
-
 pub returns : goal.returns
 returns c =
     let l = c.loop-j in

@@ -11,8 +11,5 @@ loop-i-init c = none_yet
 pub loop-i-preserved : goal.loop-i-preserved
 loop-i-preserved c = let h = c.put_hex-end in one_more_lem c.loop-i.invariant c.loop-i-test.true h.auto.out h.ensures
 
-pub shape_of-out : goal.shape_of-out
-shape_of-out c = c.loop-i.invariant.long ∙ c.put_start-end.auto.out
-
 pub returns : goal.returns
 returns c = put_buffer 16 _ c.put_start-end.ensures c.loop-i.invariant c.loop-i-test.false
