@@ -110,6 +110,19 @@ pub all_fits : (text buffer : List ℕ) (p : ℕ) → p + length text ≤ length
 unfolding fitting
 all_fits text buffer p h = take_all (length buffer - p) text (omega arith)
 
+-- where there is room, all bytes are copied
+pub all_copied : (from into : List ℕ) {part : List ℕ} {r : ℕ} → length from ≤ length into → r ≡ min (length from) (length into)
+    → part ≡ take (min (length from) (length into)) from ++ drop (min (length from) (length into)) into
+    → (r ≡ length from) × (part ≡ from ++ drop (length from) into)
+all_copied from into {part} {r} h e f =
+    let m : min (length from) (length into) ≡ length from = omega arith in
+    (e ∙ m, f ∙ ap (λ k. take k from ++ drop k into) m ∙ ap (λ x. x ++ drop (length from) into) (take_all (length from) from (omega arith)))
+
+-- there is room behind place p for as many bytes as were measured
+pub has_place : (text out : List ℕ) (p n : ℕ) → n ≡ min (length out - p) (length text)
+    → length (take n text) ≤ length (take (length out - p) (drop p out))
+has_place text out p n e = simp (length-take, length-drop) (omega arith)
+
 -- the first n bytes of a text were copied to the front of what there is from place p on
 pub put_copied : (text out : List ℕ) (p n : ℕ) {part : List ℕ} {r : ℕ} → p ≤ length out → n ≡ min (length out - p) (length text) → r ≡ length (take n text)
     → part ≡ take n text ++ drop (length (take n text)) (mid_of p (length out - p) out) → Put text out p (put_mid p (length out - p) out part) (p + r)

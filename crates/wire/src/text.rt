@@ -1,5 +1,5 @@
 // Text, put into a buffer from a place on, as much of it as there is room for. Each function answers where its text ends.
-ghost use Rattle.std.specs.Prelude.{◌≡◌, [], ◌∷◌, ◌++◌, ◌<◌, ◌≤◌, min, length, drop};
+ghost use Rattle.std.specs.Prelude.{◌≡◌, [], ◌∷◌, ◌++◌, ◌<◌, min, length, take, drop};
 ghost use Rattle.wire.specs.Text.{hex_digit_ascii, hex_of, decimal, Put};
 
 use words::least;
@@ -35,14 +35,14 @@ fn put_byte(out: &mut [u8], at: usize, b: u8) -> usize
     at + 1
 }
 
-// Copies all bytes to the front, and answers how many.
+// Copies bytes to the front, as many as there is room for, and answers how many.
 pub fn copy(from: &[u8], into: &mut [u8]) -> usize
-    requires { length from.now ≤ length into.old }
-    ensures end { result ≡ length from.now }
-    ensures holds { into.new ≡ from.now ++ drop (length from.now) into.old }
+    ensures end { result ≡ min (length from.now) (length into.old) }
+    ensures holds { into.new ≡ take (min (length from.now) (length into.old)) from.now ++ drop (min (length from.now) (length into.old)) into.old }
 {
-    into[..from.len()].copy_from_slice(from);
-    from.len()
+    let n = least(from.len(), into.len());
+    into[..n].copy_from_slice(&from[..n]);
+    n
 }
 
 // Bytes as they are.
