@@ -10,7 +10,7 @@ use lib.Dec.{eqb}
 use lib.ListN.{length, get_or, drop, length-append, get_or-eq_default}
 use borrow.Author.Tests.{eq-eqb, not-true}
 use Rattle.bits.proofs.TestLaws.{clash, and_left, and_right, or_out}
-use Rattle.wire.specs.Text.{decimal, Put}
+use Rattle.wire.specs.Text.{Put}
 use Rattle.wire.proofs.TextLaws.{put_both, put_same, length_decimals}
 use Rattle.calls.specs.Format.{table, form_of, no_form, has_none, has_over, is_bad, call_end, is_cut_short}
 use Rattle.calls.specs.Bad.{Reason, its_tag, a_length, cut_short, first_of, reason, reason_text, bad_call}

@@ -4,7 +4,7 @@ use mathlib.Core.List.{List, ◌++◌}
 use Prim.Native.Nat.{ℕ, suc, ◌+◌, ◌-◌, ◌*◌, ◌≤◌, ◌<◌}
 use native.Mathlib.Omega.{arith}
 use lib.ListN.{length, get_or, take, drop, set, length-take, length-drop}
-use lib.Seq.{get_or-take, get_or-drop, drop-cons, length-take-le, take_at, take-length}
+use lib.Seq.{get_or-take, get_or-drop, drop-cons, take_at}
 use Rattle.bits.specs.Bits.{number, list, number_at}
 use Rattle.bits.proofs.BoundLaws.{length_list, list_get_or, list_more}
 use Rattle.calls.specs.Format.{many, elements, place, Held, buffer_of}

@@ -1,11 +1,10 @@
 use mathlib.Core.Path.{refl, ◌∙◌}
-use Prim.Native.Nat.{◌-◌}
 use native.Mathlib.Omega.{arith}
 use Rattle.calls.specs.Stream.{none}
 use lib.Dec.{ltb}
 use Rattle.bits.proofs.TestLaws.{and_right}
-use Rattle.calls.proofs.TurnLaws.{left_over, one_more_lem, ran}
-use Rattle.calls.proofs.CountLaws.{counted_next, counted_most}
+use Rattle.calls.proofs.TurnLaws.{left_over, one_more_lem}
+use Rattle.calls.proofs.CountLaws.{counted_next}
 use Rattle.calls.proofs.run.Goals as goal
 
 pub loop-turns-init : goal.loop-turns-init

@@ -1,8 +1,6 @@
-use mathlib.Core.Path.{◌≡◌, refl}
-use Prim.Native.Nat.{◌-◌}
 use native.Mathlib.Omega.{arith}
 use lib.ListN.{length-set}
-use Rattle.calls.proofs.TurnLaws.{front_more, front_done}
+use Rattle.calls.proofs.TurnLaws.{front_more}
 use Rattle.calls.proofs.to_front.Goals as goal
 
 -- The loop has moved the first i bytes, and those from i on are as they were.

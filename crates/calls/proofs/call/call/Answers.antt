@@ -1,5 +1,4 @@
-use mathlib.Core.Path.{sym, ◌∙◌}
-use Rattle.calls.proofs.CallLaws.{none, made}
+use Rattle.calls.proofs.CallLaws.{made}
 use Rattle.calls.proofs.call.call.Goals as goal
 
 pub returns : goal.returns

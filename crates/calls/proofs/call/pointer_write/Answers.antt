@@ -1,5 +1,4 @@
 use mathlib.Core.List.{[], ◌∷◌}
-use lib.Dec.{lit≤}
 use borrow.Author.Rules.{rules}
 use Rattle.bits.specs.Bits.{list}
 use Rattle.calls.specs.Format.{table, form_of}

@@ -1,5 +1,4 @@
 use mathlib.Core.List.{[], ◌∷◌}
-use lib.Dec.{lit≤}
 use native.Mathlib.Omega.{arith}
 use borrow.Author.Rules.{rules}
 use Rattle.bits.specs.Bits.{list}

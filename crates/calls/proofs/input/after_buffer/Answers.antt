@@ -1,5 +1,5 @@
 use native.Mathlib.Omega.{arith}
-use Rattle.calls.proofs.FormatLaws.{no_buffer, buffer_cut, buffer_fits, buffer_done, small}
+use Rattle.calls.proofs.FormatLaws.{no_buffer, buffer_cut, buffer_done}
 use Rattle.calls.proofs.input.after_buffer.Goals as goal
 
 pub returns-then-at-eq0 : goal.returns-then-at-eq0

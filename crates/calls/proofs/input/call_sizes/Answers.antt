@@ -1,5 +1,4 @@
 use mathlib.Core.List.{[], ◌∷◌}
-use lib.Dec.{lit≤}
 use Rattle.bits.specs.Bits.{list}
 use Rattle.calls.proofs.input.call_sizes.Goals as goal
 

@@ -1,7 +1,5 @@
-use mathlib.Core.Path.{◌≡◌}
-use Prim.Native.Nat.{◌-◌}
 use native.Mathlib.Omega.{arith}
-use Rattle.calls.proofs.FormatLaws.{small_by, found_first, found_next, found_last}
+use Rattle.calls.proofs.FormatLaws.{small_by, found_first, found_next}
 use Rattle.calls.proofs.input.find.Goals as goal
 
 -- The loop has found the place of buffer j.

@@ -1,4 +1,4 @@
-use Rattle.calls.proofs.FormatLaws.{small_by, over_done}
+use Rattle.calls.proofs.FormatLaws.{small_by}
 use Rattle.calls.proofs.input.has_over.Goals as goal
 
 pub find-found-requires : goal.find-found-requires

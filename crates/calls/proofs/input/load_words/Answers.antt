@@ -1,8 +1,5 @@
-use mathlib.Core.Path.{sym}
-use Prim.Native.Nat.{◌-◌}
 use native.Mathlib.Omega.{arith}
 use lib.ListN.{length-set}
-use lib.Seq.{length-take-le}
 use Rattle.calls.proofs.FormatLaws.{held_small, held_stands}
 use Rattle.calls.proofs.ElementLaws.{words_none, words_more, words_of}
 use Rattle.calls.proofs.input.load_words.Goals as goal

@@ -1,5 +1,3 @@
-use mathlib.Core.Path.{◌∙◌}
-use Prim.Native.Nat.{◌-◌}
 use Rattle.calls.proofs.TextLaws.{none_yet, one_more_lem, put_first}
 use Rattle.calls.proofs.print.put_answer.Goals as goal
 

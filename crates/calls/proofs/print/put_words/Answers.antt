@@ -1,5 +1,3 @@
-use mathlib.Core.Path.{◌∙◌}
-use Prim.Native.Nat.{◌-◌}
 use Rattle.calls.proofs.TextLaws.{none_yet, one_more_lem, put_buffer}
 use Rattle.calls.proofs.print.put_words.Goals as goal
 

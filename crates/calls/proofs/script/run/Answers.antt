@@ -1,7 +1,4 @@
-use mathlib.Core.Path.{sym, ◌∙◌}
-use Prim.Native.Nat.{◌-◌}
-use native.Mathlib.Omega.{arith}
-use Rattle.calls.proofs.ScriptLaws.{start_small, step_small, run_start, run_more, run_done}
+use Rattle.calls.proofs.ScriptLaws.{step_small, run_start, run_more}
 use Rattle.calls.proofs.script.run.Goals as goal
 
 pub loop-i-init : goal.loop-i-init
