@@ -1,20 +1,19 @@
 -- Laws of what is in the input: buffers, forms and places. Assumes nothing.
-use mathlib.Core.Path.{◌≡◌, refl, sym, ap, ap₂, subst, transport, ◌∙◌}
+use mathlib.Core.Path.{◌≡◌, refl, sym, ap, ap₂, subst, ◌∙◌}
 use mathlib.Core.Bool.{Bool, true, false, not, cond, ◌&&◌, ◌||◌}
 use mathlib.Core.List.{List, [], ◌∷◌}
-use Prim.Native.Nat.{ℕ, zero, suc, ◌+◌, ◌-◌, ◌*◌, ◌≤◌, ◌<◌}
+use Prim.Native.Nat.{ℕ, zero, suc, ◌+◌, ◌*◌, ◌≤◌, ◌<◌}
 use native.Mathlib.Nat.{le_trans, mul-le-mul_left}
 use native.Mathlib.Numerals.{add-one}
 use native.Mathlib.Omega.{arith}
 use native.Mathlib.Decide.{dec_lt}
 use lib.Dec.{eqb, leb, ltb}
 use lib.ListN.{length, get_or, get_or-eq_default}
-use borrow.Author.Tests.{eqb-true, eqb-false, not-true, leb-true, ltb-true, ne_eqb, le-leb, lt-leb, lt-ltb}
+use borrow.Author.Tests.{eqb-true, eqb-false, not-true, leb-true, ltb-true, ne_eqb, le-leb, lt-ltb}
 use Rattle.bits.specs.Bits.{some}
-use Rattle.bits.proofs.TestLaws.{clash, same_test, and_left, and_right, false_when}
-use Rattle.calls.specs.Format.{many, is_buffer, is_over, after_numbers, after_buffer, table, form_of, width, place_of, place, form_end, has_over, Found, no_form, Whole, Tagged, Held}
+use Rattle.bits.proofs.TestLaws.{clash, and_left, and_right, false_when}
+use Rattle.calls.specs.Format.{many, is_buffer, is_over, after_numbers, after_buffer, table, form_of, width, place_of, place, form_end, Found, no_form, Whole, Tagged, Held}
 use Rattle.calls.specs.declared.input.Form.{Form}
-use Rattle.calls.specs.declared.input.Reach.{Reach}
 
 -- ---- buffers
 
@@ -56,14 +55,6 @@ is_over_lem bs p h =
 pub over_is : (bs : List ℕ) (p : ℕ) → Over bs p → is_over bs p ≡ true
 unfolding is_over
 over_is bs p h = rw (ne_eqb p 0 h.place, le-leb _ _ h.said, lt-ltb _ _ h.many)
-
--- whether n bytes are there
-pub reaches_not : (len p n : ℕ) → len < p → false ≡ leb (p + n) len
-reaches_not len p n h = sym (lt-leb (p + n) len (omega arith))
-
-pub reaches_so : (len p n : ℕ) → p ≤ len → leb n (len - p) ≡ leb (p + n) len
-reaches_so len p n h =
-    same_test (leb n (len - p)) (leb (p + n) len) (λ e. le-leb (p + n) len (omega (arith, leb-true n (len - p) e))) (λ e. le-leb n (len - p) (omega (arith, leb-true (p + n) len e)))
 
 -- the end of a buffer with n elements, by whether its bytes are there
 module _ (bs : List ℕ) (p w : ℕ) {n : ℕ} {t : Bool} (e : n ≡ many bs p) (k : t ≡ leb (p + (2 + w * n)) (length bs)) where
@@ -188,14 +179,8 @@ found_next bs f i h e g = record {
   over = rw add-one (ap₂ ◌||◌ (e ∙ ap (is_over bs) h.at) h.over);
 }
 
-pub found_last : (bs : List ℕ) {f g : Form} {i j : ℕ} {r : Reach} → f ≡ g → j ≡ i → Found bs f j r → Found bs g i r
-found_last bs {r = r} e k h = transport (λ x. Found bs (e x) (k x) r) h
-
 pub end_done : (bs : List ℕ) (f : Form) (tag p : ℕ) → f ≡ form_of tag → (f.buffers ≡ 0 → ⊥) → p ≡ place bs tag f.buffers → p ≡ form_end bs (form_of tag)
 end_done bs f tag p e h k = k ∙ ap (λ g. place_of bs g f.buffers) (sym e) ∙ some_buffers bs f h ∙ ap (form_end bs) e
-
-pub over_done : (bs : List ℕ) (f : Form) (tag : ℕ) {t : Bool} → f ≡ form_of tag → t ≡ some f.buffers (λ i. is_over bs (place bs tag i)) → t ≡ has_over bs (form_of tag)
-over_done bs f tag e h = h ∙ ap (λ g. some g.buffers (λ i. is_over bs (place bs tag i))) e
 
 -- where a call does not end at 0, all its numbers and buffers are there
 module _ (bs : List ℕ) (f : Form) where

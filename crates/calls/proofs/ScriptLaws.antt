@@ -7,7 +7,7 @@ use native.Mathlib.Numerals.{add-one}
 use native.Mathlib.Omega.{arith}
 use lib.Dec.{lit<}
 use lib.ListN.{length, get_or, take, drop, set, length-take, length-drop, length-append, length-set}
-use lib.Seq.{take-suc-set, take_all}
+use lib.Seq.{take-suc-set}
 use Rattle.bits.proofs.FirstLaws.{first_under}
 use Rattle.grid_promises.specs.declared.ReadAnswer.{ReadAnswer}
 use Rattle.fragment_promises.specs.declared.Transfer.{Transfer}
@@ -86,20 +86,6 @@ module _ {m n k : ℕ} {bytes script before : List ℕ} where
         long = step_length d ∙ h.long;
         room = length-set steps (i + 1) x ∙ h.room;
         after = rw here (subst (λ j. After m n k bytes script before j u used' after (take (i + 1) steps ++ (x ∷ []))) (sym (add-one i)) (stepped h.after l d));
-      }
-
-  pub run_done : {i used : ℕ} {out after steps : List ℕ} {t : Transfer} {a : ReadAnswer} → Running m n k bytes script before out steps t used i → length script ≤ i
-      → Finishes t out a after → length after ≡ length out → Scripted m n k bytes script before a after steps
-  run_done {i} {used} {out} {steps = steps} {t} h l f e =
-      let all : i ≡ length script = omega (arith, h.within) in
-      record {
-        last = t;
-        used = used;
-        before = out;
-        steps = subst (After m n k bytes script before (length script) t used out) (take_all (length script + 1) steps (omega (arith, h.room)))
-            (subst (λ j. After m n k bytes script before j t used out (take (j + 1) steps)) all h.after);
-        ends = f;
-        long = e;
       }
 
 -- ---- no second end

@@ -16,4 +16,11 @@ loop-turns-preserved c =
     let v = l.invariant in
     let t = c.turn-s in
     let b = c.loop-turns-test.true in
-    (t.auto.input ∙ v.0, t.auto.output ∙ v.1, t.ensures.ready_2, omega (arith, v.3), one_more_lem 2199023255552 l.turns v.3 (left_over l.turns _ b) v.4 (and_right (ltb 0 l.turns) l.s.going b) t.ensures.turn, counted_next 2199023255552 l.turns v.3 (left_over l.turns _ b) v.5 t.ensures.turn)
+    let more = left_over l.turns _ b in (
+      t.auto.input ∙ v.0,
+      t.auto.output ∙ v.1,
+      t.ensures.stays_ready,
+      omega (arith, v.3),
+      one_more_lem 2199023255552 l.turns v.3 more v.4 (and_right (ltb 0 l.turns) l.s.going b) t.ensures.turn,
+      counted_next 2199023255552 l.turns v.3 more v.5 t.ensures.turn,
+    )
