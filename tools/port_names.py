@@ -39,7 +39,13 @@ def definitions():
             use = re.match(r"^use ([^\s{]+)\.\{(.*)\}", line)
             if use and not (use[1].startswith("Rattle.") and use[1].split(".")[1] in own):
                 imported.update(x.strip().split(" as ")[-1] for x in use[2].split(","))
-            head = HEAD.match(re.sub(r"--.*", "", line))
+            code = re.sub(r"--.*", "", line)
+            alias = re.match(r"^use \S+ as (\S+)$", code.strip())
+            several = re.match(r"^ +((?:[a-z][^\s(){}\[\],;.:]* ){2,}): [A-Z]\w*$", code)
+            for name in ([alias[1]] if alias else []) + (several[1].split() if several else []):
+                if spelled(name) != name:
+                    found[name].add("specs" if kind == "specs" else "place")
+            head = HEAD.match(code)
             if head and not head[3][0].isupper() and "◌" not in head[3] and not (kind == "place" and GENERATED.match(head[3])):
                 found[head[3]].add("claims" if path.name == "Claims.antt" and kind == "specs" else kind)
     for path in TOP.glob("crates/*/src/**/*.rt"):

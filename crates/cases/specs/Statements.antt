@@ -3,9 +3,9 @@
 use Rattle.std.specs.Prelude.{ℕ, ◌≡◌, List, [], ◌∷◌, map}
 use Rattle.grid_promises.specs.Promises as grid
 use Rattle.grid_promises.specs.Conversion.{Convert}
-use Rattle.grid_promises.specs.declared.ReadAnswer as gridReadAnswer
+use Rattle.grid_promises.specs.declared.ReadAnswer as grid_read_answer
 use Rattle.grid_promises.specs.declared.ConvertAnswer.{ConvertAnswer}
-use Rattle.grid_promises.specs.declared.Answer as gridAnswer
+use Rattle.grid_promises.specs.declared.Answer as grid_answer
 use Rattle.fragment_promises.specs.declared.Transfer.{Transfer}
 use Rattle.fragment_promises.specs.Transfers.{standing_of}
 use Rattle.fragment_promises.specs.Promises.{Start, Finishes}
@@ -34,7 +34,7 @@ EveryEdge = Computed row_edges × Computed read_edges × Computed plan_edges × 
     × Computed fragment_edges
 
 -- what a plan or a store answers: the number, the counts and the index
-abbrev pub answered : gridAnswer.Answer → List ℕ
+abbrev pub answered : grid_answer.Answer → List ℕ
 answered a = a.number ∷ a.levels ∷ a.faults ∷ a.wrong ∷ a.right ∷ a.index ∷ []
 
 -- every answer, with the buffers at the end, that meets the promise of a call is this line
@@ -50,21 +50,21 @@ Promised (pointer_write n wanted mask values cells m) l =
     (answer : WriteAnswer) (cells' m' : List ℕ) → pointer.Write n wanted mask values cells m answer cells' m'
     → record { numbers = answer.number ∷ answer.active ∷ answer.new ∷ []; buffers = cells' ∷ m' ∷ [] } ≡ l
 Promised (grid_read m n k cells counters out) l =
-    (answer : gridReadAnswer.ReadAnswer) (out' : List ℕ) → grid.Read m n k cells counters out answer out'
+    (answer : grid_read_answer.ReadAnswer) (out' : List ℕ) → grid.Read m n k cells counters out answer out'
     → record { numbers = answer.number ∷ answer.index ∷ []; buffers = out' ∷ [] } ≡ l
 -- where it is accepted, the counters that the bytes hold come last
 Promised (grid_plan b k counters) l =
-    (answer : gridAnswer.Answer) (counters' : List ℕ) → grid.Plan b k counters answer counters'
+    (answer : grid_answer.Answer) (counters' : List ℕ) → grid.Plan b k counters answer counters'
     → record { numbers = answered answer; buffers = counters' ∷ by_number answer.number (counters_in b k counters' ∷ []) [] } ≡ l
 Promised (grid_store b k counters cells) l =
-    (answer : gridAnswer.Answer) (cells' : List ℕ) → grid.Store b k counters cells answer cells'
+    (answer : grid_answer.Answer) (cells' : List ℕ) → grid.Store b k counters cells answer cells'
     → record { numbers = answered answer; buffers = cells' ∷ [] } ≡ l
 Promised (grid_convert m n k k' counters out) l =
     (answer : ConvertAnswer) (out' : List ℕ) → Convert m n k k' counters out answer out'
     → record { numbers = answer.number ∷ answer.index ∷ []; buffers = out' ∷ [] } ≡ l
 -- after the number and the index: what the start answered, and what the record has noted in the end
 Promised (transfer m n k calls out) l =
-    (x : ℕ) (t u : Transfer) (answer : gridReadAnswer.ReadAnswer) (out' : List ℕ) → Start m n k x t → Calls t calls u → Finishes u out answer out'
+    (x : ℕ) (t u : Transfer) (answer : grid_read_answer.ReadAnswer) (out' : List ℕ) → Start m n k x t → Calls t calls u → Finishes u out answer out'
     → record { numbers = answer.number ∷ answer.index ∷ x ∷ standing_of u ∷ []; buffers = out' ∷ [] } ≡ l
 
 -- each of these rows is promised

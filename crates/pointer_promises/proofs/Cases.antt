@@ -112,8 +112,8 @@ metadata = (refl, refl)
 
 -- a write of data 0 with this mask and these values in the first byte and the last, to a full row of one entry, which names 511
 abbrev full_write : ℕ → ℕ → ℕ → ℕ → ℕ
-full_write firstMask firstValue lastMask lastValue =
-    write_number 1 (zeros 64) (firstMask ∷ zeros 62 ++ (lastMask ∷ [])) (firstValue ∷ zeros 62 ++ (lastValue ∷ [])) 64 (0xFF ∷ 0x03 ∷ [])
+full_write first_mask first_value last_mask last_value =
+    write_number 1 (zeros 64) (first_mask ∷ zeros 62 ++ (last_mask ∷ [])) (first_value ∷ zeros 62 ++ (last_value ∷ [])) 64 (0xFF ∷ 0x03 ∷ [])
 
 -- cell 3 is stuck at the other value, which is P3, at the right one, and sound with a value bit; cell 511 is stuck at the other value
 pub unserveds : full_write 8 8 0 0 ∷ full_write 8 0 0 0 ∷ full_write 0 8 0 0 ∷ full_write 0 0 0x80 0x80 ∷ [] ≡ 6 ∷ 0 ∷ 0 ∷ 0 ∷ []

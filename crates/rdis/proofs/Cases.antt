@@ -80,13 +80,13 @@ unfolding faulty differs bit list has xor
 alone = ((lit< tt, lit< tt, refl), inl tt)
 
 -- a chain may start by row and may start by column, and may end on a right cell
-pub by_row : IsChain G3 (cell 0 0 ∷ cell 0 1 ∷ [])
+pub by_row_lem : IsChain G3 (cell 0 0 ∷ cell 0 1 ∷ [])
 unfolding faulty differs bit list has xor
-by_row = ((lit< tt, lit< tt, refl), inl (refl, (lit< tt, lit< tt, refl), tt))
+by_row_lem = ((lit< tt, lit< tt, refl), inl (refl, (lit< tt, lit< tt, refl), tt))
 
-pub by_column : IsChain G3 (cell 1 1 ∷ cell 0 1 ∷ [])
+pub by_column_lem : IsChain G3 (cell 1 1 ∷ cell 0 1 ∷ [])
 unfolding faulty differs bit list has xor
-by_column = ((lit< tt, lit< tt, refl), inr (refl, (lit< tt, lit< tt, refl), tt))
+by_column_lem = ((lit< tt, lit< tt, refl), inr (refl, (lit< tt, lit< tt, refl), tt))
 
 -- G5 has a chain of five cells, though it has four: the first comes again
 pub round : HasChain G5 5

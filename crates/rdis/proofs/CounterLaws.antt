@@ -12,7 +12,7 @@ use Rattle.bits.proofs.BitLaws.{has_word}
 use Rattle.rdis.specs.Block.{Block, stuck, differs, faulty}
 use Rattle.rdis.specs.Levels.{Subgrid, whole, takes_row, taken, left, Outcome, masked, unmaskable, none, more, levels, plan}
 use Rattle.rdis.specs.Cells.{flips}
-use Rattle.rdis.specs.Chains.{Way, byRow, byColumn}
+use Rattle.rdis.specs.Chains.{Way, by_row, by_column}
 use Rattle.rdis.specs.Theorems.{Masked, CountersAtMost, LevelsReached, WrongWhereFlipped}
 use Rattle.rdis.proofs.Taking.{own, each, inside, line_taken, line_out, left_in}
 use Rattle.rdis.proofs.LevelLaws.{levels_ind}
@@ -37,8 +37,8 @@ odd_suc (suc (suc n)) =
 -- ---- what the counters of the levels over a subgrid say
 
 abbrev pub tally : Way → (ℕ → ℕ) → (ℕ → ℕ) → ℕ → ℕ
-tally byRow r c = r
-tally byColumn r c = c
+tally by_row r c = r
+tally by_column r c = c
 
 pub record Counted (b : Block) (w : Bool) (s : Subgrid) (l : ℕ) (r c : ℕ → ℕ) : Type 0 where
   pub outside : (d : Way) (i : ℕ) → has (own d s) i ≡ false → tally d r c i ≡ 0
@@ -70,8 +70,8 @@ module _ (b : Block) (w : Bool) (s : Subgrid) (l : ℕ) (r c : ℕ → ℕ) (e :
   untaken d i q = false_when _ (λ x. clash (line_out b w s d i x).0 q)
 
   raised : (d : Way) (i : ℕ) → tally d (λ i. num (has (taken b w s).rows i) + r i) (λ j. num (has (taken b w s).columns j) + c j) i ≡ num (has (own d (taken b w s)) i) + tally d r c i
-  raised byRow i = refl
-  raised byColumn i = refl
+  raised by_row i = refl
+  raised by_column i = refl
 
   odd_more : (i j : ℕ) → i < b.rows → j < b.columns → has s.rows i ≡ true → has s.columns j ≡ true → stuck b i j ≡ true
       → (u v : Bool) → has (taken b w s).rows i ≡ u → has (taken b w s).columns j ≡ v → faulty b w i j ≡ eqb (min (num u + r i) (num v + c j) % 2) 1
@@ -80,18 +80,18 @@ module _ (b : Block) (w : Bool) (s : Subgrid) (l : ℕ) (r c : ℕ → ℕ) (e :
       let e : suc (min (r i) (c j)) ≡ min (1 + r i) (1 + c j) = omega arith in
       sym (not-not (faulty b w i j)) ∙ ap not (sym (other_sense b w i j g) ∙ h.odd i j p q a d g) ∙ odd_suc (min (r i) (c j)) ∙ ap (λ n. eqb (n % 2) 1) e
   odd_more i j p q x y g true false a d =
-      let e : 0 ≡ min (1 + r i) (0 + c j) = omega (arith, h.outside byColumn j d) in
-      false_when _ (λ f. clash (line_taken b w s byColumn (inside (record { row = i; column = j }) x y (p, q, f)) refl) d) ∙ ap (λ n. eqb (n % 2) 1) e
+      let e : 0 ≡ min (1 + r i) (0 + c j) = omega (arith, h.outside by_column j d) in
+      false_when _ (λ f. clash (line_taken b w s by_column (inside (record { row = i; column = j }) x y (p, q, f)) refl) d) ∙ ap (λ n. eqb (n % 2) 1) e
   odd_more i j p q x y g false v a d =
-      let e : 0 ≡ min (0 + r i) (num v + c j) = omega (arith, h.outside byRow i a) in
-      false_when _ (λ f. clash (line_taken b w s byRow (inside (record { row = i; column = j }) x y (p, q, f)) refl) a) ∙ ap (λ n. eqb (n % 2) 1) e
+      let e : 0 ≡ min (0 + r i) (num v + c j) = omega (arith, h.outside by_row i a) in
+      false_when _ (λ f. clash (line_taken b w s by_row (inside (record { row = i; column = j }) x y (p, q, f)) refl) a) ∙ ap (λ n. eqb (n % 2) 1) e
 
   -- a row that every level inside took was taken, and without a level inside any row that was taken will do
   reached_more : (m : ℕ) → l ≡ m → (i : ℕ) × (i < b.rows) × (num (has (taken b w s).rows i) + r i ≡ suc l)
-  reached_more zero z = let (i, p, q) = row_taken b w s e in (i, p, rw q (omega (arith, z, h.most byRow i)))
+  reached_more zero z = let (i, p, q) = row_taken b w s e in (i, p, rw q (omega (arith, z, h.most by_row i)))
   reached_more (suc m) z =
       let (i, p, q) = h.reached (omega arith) in
-      (i, p, ⊎_elim (λ x. rw x (omega (arith, q))) (λ x. absurd (omega (arith, z, q, h.outside byRow i x))) (true_or_false (has (taken b w s).rows i)))
+      (i, p, ⊎_elim (λ x. rw x (omega (arith, q))) (λ x. absurd (omega (arith, z, q, h.outside by_row i x))) (true_or_false (has (taken b w s).rows i)))
 
   counted : Counts b w s (more (taken b w s) (masked l r c))
   unfolding flips
@@ -116,7 +116,7 @@ unfolding plan
 counts b k l r c e = subst (Counts b true (whole b)) e (levels_counted b k true (whole b))
 
 pub counters_at_most : CountersAtMost
-counters_at_most b k l r c e = ((counts b k l r c e).most byRow, (counts b k l r c e).most byColumn)
+counters_at_most b k l r c e = ((counts b k l r c e).most by_row, (counts b k l r c e).most by_column)
 
 pub levels_reached : LevelsReached
 levels_reached b k l r c e = (counts b k l r c e).reached

@@ -11,7 +11,7 @@ use Rattle.bits.proofs.TestLaws.{clash, true_or_false, xor_none, xor_back}
 use Rattle.rdis.specs.Block.{Block, bit, stuck, differs, faulty}
 use Rattle.rdis.specs.Levels.{Subgrid, whole, taken, Outcome, masked, unmaskable, plan}
 use Rattle.rdis.specs.Cells.{flips, misreads}
-use Rattle.rdis.specs.Chains.{Cell, Way, byRow, byColumn, line}
+use Rattle.rdis.specs.Chains.{Cell, Way, by_row, by_column, line}
 use Rattle.rdis.specs.Facts.{LevelsUsed, CountsLevels}
 use Rattle.rdis.specs.Theorems.{Masked, AtMost, ChainExceeds, ChainMisreads, RefusedIfNoCounters, MaskedIfAny, LeastCounters, FewestLevels}
 use Rattle.rdis.proofs.Walks.{turns_once, colour}
@@ -64,7 +64,7 @@ module _ (b : Block) (r c : ℕ → ℕ) (right : misreads b r c ≡ false) wher
   raised : (t : ℕ) (s : Subgrid) (e : Cell) → Lines t s → In b s (colour true t) e → (d : Way) → t < tally d r c (line d e)
   raised t s e h f =
       let reached : (d : Way) → t ≤ tally d r c (line d e) = λ d. h d (line d e) (f.lines d) in
-      let (x, y) = exceeds t e.row e.column f.cell.0 f.cell.1 (reached byRow) (reached byColumn) f.cell.2 in
+      let (x, y) = exceeds t e.row e.column f.cell.0 f.cell.1 (reached by_row) (reached by_column) f.cell.2 in
       each (λ d. t < tally d r c (line d e)) x y
 
   lines_raised : (t : ℕ) (s : Subgrid) → Lines t s → Lines (suc t) (taken b (colour true t) s)
@@ -75,7 +75,7 @@ module _ (b : Block) (r c : ℕ → ℕ) (right : misreads b r c ≡ false) wher
       → (i : ℕ) × (j : ℕ) × (i < b.rows) × (j < b.columns) × (t + k < r i) × (t + k < c j)
   above zero t s h x =
       let (e, f) = left_out b (colour true t) s ((long_zero b (colour true t) s).0 x) in
-      (e.row, e.column, f.cell.0, f.cell.1, omega (arith, raised t s e h f byRow), omega (arith, raised t s e h f byColumn))
+      (e.row, e.column, f.cell.0, f.cell.1, omega (arith, raised t s e h f by_row), omega (arith, raised t s e h f by_column))
   above (suc k) t s h x =
       let s' = taken b (colour true t) s in
       let y = subst (λ w. Long b w s' k) (sym (turns_once not true t)) ((long_suc b (colour true t) s k).0 x) in

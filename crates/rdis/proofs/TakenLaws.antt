@@ -9,7 +9,7 @@ use Rattle.bits.specs.Bits.{num, has}
 use Rattle.bits.proofs.TestLaws.{clash}
 use Rattle.rdis.specs.Block.{Block, faulty}
 use Rattle.rdis.specs.Levels.{Subgrid, whole, taken, left, Outcome, masked, unmaskable, none, more, levels, plan}
-use Rattle.rdis.specs.Chains.{Cell, Way, byRow, byColumn, line}
+use Rattle.rdis.specs.Chains.{Cell, Way, by_row, by_column, line}
 use Rattle.rdis.specs.Facts.{CountsLevels}
 use Rattle.rdis.specs.Theorems.{Masked, LevelsCounted, OneCount}
 use Rattle.rdis.proofs.Walks.{colour}
@@ -26,8 +26,8 @@ Takes b w s unmaskable = Unit {0}
 Takes b w s (masked l r c) = (t : ℕ) (d : Way) (i : ℕ) → (t < tally d r c i) ↔ Reached b w s r c t d i
 
 nothing : (d : Way) (i : ℕ) → tally d (λ _. 0) (λ _. 0) i ≡ 0
-nothing byRow i = refl
-nothing byColumn i = refl
+nothing by_row i = refl
+nothing by_column i = refl
 
 ended : (b : Block) (w : Bool) (s : Subgrid) → left b w s ≡ false → Takes b w s none
 ended b w s z t d i = (λ h. absurd (omega (arith, nothing d i)), λ (e, p, q, f). by t q (f d) (nothing d (line d e)))
@@ -44,8 +44,8 @@ module _ (b : Block) (w : Bool) (s : Subgrid) (r c : ℕ → ℕ) (h : (t : ℕ)
   c' j = num (has (taken b w s).columns j) + c j
 
   raised : (d : Way) (i : ℕ) → tally d r' c' i ≡ num (has (own d (taken b w s)) i) + tally d r c i
-  raised byRow i = refl
-  raised byColumn i = refl
+  raised by_row i = refl
+  raised by_column i = refl
 
   -- a line with a counter is taken
   is_taken : (d : Way) (i : ℕ) → 0 < tally d r' c' i → has (own d (taken b w s)) i ≡ true
@@ -102,19 +102,19 @@ levels_counted b k l r c m =
     record {
       rows = λ i t p. (
         λ q.
-            let (e, x, f, g) = (h t byRow i).0 q in
-            (omega arith, (e.column, f.cell.1, g byColumn, ap (λ y. faulty b y i e.column) (sym (even t)) ∙ ap (λ y. faulty b (colour true t) y e.column) x ∙ f.cell.2)),
+            let (e, x, f, g) = (h t by_row i).0 q in
+            (omega arith, (e.column, f.cell.1, g by_column, ap (λ y. faulty b y i e.column) (sym (even t)) ∙ ap (λ y. faulty b (colour true t) y e.column) x ∙ f.cell.2)),
         λ (q, (j, l, g, f)).
             let e : Cell = record { row = i; column = j } in
-            (h t byRow i).1 (e, refl, of_whole b (colour true t) e (p, l, ap (λ y. faulty b y i j) (even t) ∙ f), each (λ x. t ≤ tally x r c (line x e)) q g),
+            (h t by_row i).1 (e, refl, of_whole b (colour true t) e (p, l, ap (λ y. faulty b y i j) (even t) ∙ f), each (λ x. t ≤ tally x r c (line x e)) q g),
       );
       columns = λ j t p. (
         λ q.
-            let (e, x, f, g) = (h t byColumn j).0 q in
-            (omega arith, (e.row, f.cell.0, g byRow, ap (λ y. faulty b y e.row j) (sym (even t)) ∙ ap (λ y. faulty b (colour true t) e.row y) x ∙ f.cell.2)),
+            let (e, x, f, g) = (h t by_column j).0 q in
+            (omega arith, (e.row, f.cell.0, g by_row, ap (λ y. faulty b y e.row j) (sym (even t)) ∙ ap (λ y. faulty b (colour true t) e.row y) x ∙ f.cell.2)),
         λ (q, (i, l, g, f)).
             let e : Cell = record { row = i; column = j } in
-            (h t byColumn j).1 (e, refl, of_whole b (colour true t) e (l, p, ap (λ y. faulty b y i j) (even t) ∙ f), each (λ x. t ≤ tally x r c (line x e)) g q),
+            (h t by_column j).1 (e, refl, of_whole b (colour true t) e (l, p, ap (λ y. faulty b y i j) (even t) ∙ f), each (λ x. t ≤ tally x r c (line x e)) g q),
       );
     }
 

@@ -11,23 +11,23 @@ use Rattle.bits.proofs.BoundLaws.{some_in, some_out}
 use Rattle.bits.proofs.BitLaws.{has_word, word_out}
 use Rattle.rdis.specs.Block.{Block, faulty}
 use Rattle.rdis.specs.Levels.{Subgrid, whole, takes, takes_row, takes_column, taken, left}
-use Rattle.rdis.specs.Chains.{Cell, Way, byRow, byColumn, turn, line, Step, Is, HasChain, SomeWrong}
+use Rattle.rdis.specs.Chains.{Cell, Way, by_row, by_column, turn, line, Step, Is, HasChain, SomeWrong}
 use Rattle.rdis.proofs.Walks.{twice, twice_is, turns_once, turns_twice, turn_turn, colour, way, Walk, chain_walk, walk_chain, map_walk, prefix, single, before, after}
 
 -- ---- rows and columns alike
 
 abbrev pub own : Way → Subgrid → ℕ
-own byRow s = s.rows
-own byColumn s = s.columns
+own by_row s = s.rows
+own by_column s = s.columns
 
 -- what holds by row and by column holds by each way, and so does what holds by a way and by the other
-pub each : (Q : Way → Type 0) → Q byRow → Q byColumn → (d : Way) → Q d
-each Q p q byRow = p
-each Q p q byColumn = q
+pub each : (Q : Way → Type 0) → Q by_row → Q by_column → (d : Way) → Q d
+each Q p q by_row = p
+each Q p q by_column = q
 
 other : (Q : Way → Type 0) (d : Way) → Q d → Q (turn d) → (x : Way) → Q x
-other Q byRow p q = each Q p q
-other Q byColumn p q = each Q q p
+other Q by_row p q = each Q p q
+other Q by_column p q = each Q q p
 
 -- a stuck cell of the subgrid, of the colour w
 pub record In (b : Block) (s : Subgrid) (w : Bool) (c : Cell) : Type 0 where
@@ -58,16 +58,16 @@ module _ (n own other : ℕ) (test : ℕ → ℕ → Bool) (i : ℕ) where
 
 module _ (b : Block) (w : Bool) (s : Subgrid) where
   takes_row_lem : {e : Cell} → In b s w e → takes_row b w s e.row ≡ true
-  takes_row_lem {e} h = takes_in b.columns s.rows s.columns (faulty b w) e.row e.column (h.lines byRow) h.cell.1 (h.lines byColumn) h.cell.2
+  takes_row_lem {e} h = takes_in b.columns s.rows s.columns (faulty b w) e.row e.column (h.lines by_row) h.cell.1 (h.lines by_column) h.cell.2
 
   -- the line of a cell of the colour is taken
   pub line_taken : (d : Way) {e : Cell} {i : ℕ} → In b s w e → line d e ≡ i → has (own d (taken b w s)) i ≡ true
   unfolding taken
-  line_taken byRow {e} h p = subst (λ x. has (taken b w s).rows x ≡ true) p (has_word b.rows (takes_row b w s) e.row h.cell.0 ∙ takes_row_lem h)
-  line_taken byColumn {e} h p =
+  line_taken by_row {e} h p = subst (λ x. has (taken b w s).rows x ≡ true) p (has_word b.rows (takes_row b w s) e.row h.cell.0 ∙ takes_row_lem h)
+  line_taken by_column {e} h p =
       subst (λ x. has (taken b w s).columns x ≡ true) p
       (has_word b.columns (takes_column b w s) e.column h.cell.1
-      ∙ takes_in b.rows s.columns s.rows (λ j i. faulty b w i j) e.column e.row (h.lines byColumn) h.cell.0 (h.lines byRow) h.cell.2)
+      ∙ takes_in b.rows s.columns s.rows (λ j i. faulty b w i j) e.column e.row (h.lines by_column) h.cell.0 (h.lines by_row) h.cell.2)
 
   row_out : (i : ℕ) → i < b.rows → takes_row b w s i ≡ true → (has s.rows i ≡ true) × ((e : Cell) × In b s w e × (i ≡ e.row))
   row_out i l t =
@@ -82,8 +82,8 @@ module _ (b : Block) (w : Bool) (s : Subgrid) where
   -- a taken line is of the subgrid, and holds a cell of the colour
   pub line_out : (d : Way) (i : ℕ) → has (own d (taken b w s)) i ≡ true → (has (own d s) i ≡ true) × ((e : Cell) × In b s w e × (i ≡ line d e))
   unfolding taken
-  line_out byRow i h = let (l, t) = word_out b.rows (takes_row b w s) i h in row_out i l t
-  line_out byColumn j h = let (l, t) = word_out b.columns (takes_column b w s) j h in column_out j l t
+  line_out by_row i h = let (l, t) = word_out b.rows (takes_row b w s) i h in row_out i l t
+  line_out by_column j h = let (l, t) = word_out b.columns (takes_column b w s) j h in column_out j l t
 
   -- a cell of the subgrid of the colour is there
   pub left_in : {c : Cell} → In b s w c → left b w s ≡ true
@@ -157,7 +157,7 @@ module _ (b : Block) (w : Bool) (s : Subgrid) where
 
   pub long_zero : Long b w s zero ↔ (left b w s ≡ true)
   unfolding Long
-  long_zero = (λ (d, W). left_in b w s (W.is zero (omega arith)), λ h. let (e, p) = left_out b w s h in (byRow, single e p))
+  long_zero = (λ (d, W). left_in b w s (W.is zero (omega arith)), λ h. let (e, p) = left_out b w s h in (by_row, single e p))
 
   pub long_le : (k m : ℕ) → m ≤ k → Long b w s k → Long b w s m
   unfolding Long
@@ -172,4 +172,4 @@ long_whole b k = (
 
 pub some_wrong : (b : Block) → SomeWrong b ↔ Long b true (whole b) zero
 unfolding Long
-some_wrong b = (λ (c, h). (byRow, single c (of_whole b true c h)), λ (d, W). (W.cell zero, (W.is zero (omega arith)).cell))
+some_wrong b = (λ (c, h). (by_row, single c (of_whole b true c h)), λ (d, W). (W.cell zero, (W.is zero (omega arith)).cell))

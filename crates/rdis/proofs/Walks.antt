@@ -8,7 +8,7 @@ use native.Mathlib.Nat.{zero-add, suc-add}
 use native.Mathlib.Omega.{arith}
 use native.Mathlib.Decide.{dec_le}
 use lib.ListN.{length, get_or}
-use Rattle.rdis.specs.Chains.{Cell, Way, byRow, byColumn, turn, Step, Rest, Chain}
+use Rattle.rdis.specs.Chains.{Cell, Way, by_row, by_column, turn, Step, Rest, Chain}
 
 -- ---- what alternates
 
@@ -45,8 +45,8 @@ module _ {A : Type 0} (f : A → A) where
         sym (turns_add x (twice k) (m - twice k) ∙ ap (λ y. turns f y (m - twice k)) (turns_twice x k)) ∙ ap (turns f x) e
 
 pub turn_turn : (d : Way) → turn (turn d) ≡ d
-turn_turn byRow = refl
-turn_turn byColumn = refl
+turn_turn by_row = refl
+turn_turn by_column = refl
 
 -- the colour of cell m, and the way of step m
 abbrev pub colour : Bool → ℕ → Bool
@@ -82,8 +82,8 @@ module _ (P : Bool → Cell → Type 0) where
 
   pub chain_walk : (n : ℕ) (cs : List Cell) → length cs ≡ suc n → Chain P cs → (d : Way) × Walk P true d n
   chain_walk n [] e h = absurd h
-  chain_walk n (c ∷ cs) e (h, inl r) = (byRow, rest_walk n true byRow c cs e h r)
-  chain_walk n (c ∷ cs) e (h, inr r) = (byColumn, rest_walk n true byColumn c cs e h r)
+  chain_walk n (c ∷ cs) e (h, inl r) = (by_row, rest_walk n true by_row c cs e h r)
+  chain_walk n (c ∷ cs) e (h, inr r) = (by_column, rest_walk n true by_column c cs e h r)
 
   walk_rest : (n : ℕ) (w : Bool) (d : Way) (f : ℕ → Cell) → ((m : ℕ) → m ≤ n → P (colour w m) (f m)) → ((m : ℕ) → m < n → Step (way d m) (f m) (f (suc m)))
       → (cs : List Cell) × (length cs ≡ n) × Rest P w d (f zero) cs
@@ -93,8 +93,8 @@ module _ (P : Bool → Cell → Type 0) where
       (f 1 ∷ cs, ap suc e, (s zero (omega arith), h 1 (omega arith), r))
 
   pub walk_chain : (n : ℕ) (d : Way) → Walk P true d n → (cs : List Cell) × (length cs ≡ suc n) × Chain P cs
-  walk_chain n byRow W = let (cs, e, r) = walk_rest n true byRow W.cell W.is W.step in (W.cell zero ∷ cs, ap suc e, (W.is zero (omega arith), inl r))
-  walk_chain n byColumn W = let (cs, e, r) = walk_rest n true byColumn W.cell W.is W.step in (W.cell zero ∷ cs, ap suc e, (W.is zero (omega arith), inr r))
+  walk_chain n by_row W = let (cs, e, r) = walk_rest n true by_row W.cell W.is W.step in (W.cell zero ∷ cs, ap suc e, (W.is zero (omega arith), inl r))
+  walk_chain n by_column W = let (cs, e, r) = walk_rest n true by_column W.cell W.is W.step in (W.cell zero ∷ cs, ap suc e, (W.is zero (omega arith), inr r))
 
 -- ---- other walks from a walk
 

@@ -9,16 +9,16 @@ pub record Cell : Type 0 where
 
 -- the two ways to step, and the other one of them
 pub data Way : Type 0 where
-  byRow byColumn : Way
+  by_row by_column : Way
 
 abbrev pub turn : Way → Way
-turn byRow = byColumn
-turn byColumn = byRow
+turn by_row = by_column
+turn by_column = by_row
 
 -- the line of a cell that a step keeps
 abbrev pub line : Way → Cell → ℕ
-line byRow c = c.row
-line byColumn c = c.column
+line by_row c = c.row
+line by_column c = c.column
 
 -- a step by row keeps the row, a step by column keeps the column
 abbrev pub Step : Way → Cell → Cell → Type 0
@@ -32,7 +32,7 @@ Rest P w d c (e ∷ es) = Step d c e × P (not w) e × Rest P (not w) (turn d) e
 -- a chain: its first cell is of the colour true and colours alternate; ways alternate too, and the first step is of either. A cell may come again
 abbrev pub Chain : (Bool → Cell → Type 0) → List Cell → Type 0
 Chain P [] = ⊥
-Chain P (c ∷ cs) = P true c × (Rest P true byRow c cs ⊎ Rest P true byColumn c cs)
+Chain P (c ∷ cs) = P true c × (Rest P true by_row c cs ⊎ Rest P true by_column c cs)
 
 -- the colours of a block: its wrong stuck cells are true, its right ones false
 abbrev pub Is : Block → Bool → Cell → Type 0
