@@ -39,6 +39,10 @@ counted_next {r = r} m n l p h t =
     let e : suc (m - n) ≡ m - (n - 1) = omega arith in
     subst (λ i. Counted i r) e (counted_more (m - n) h t)
 
+-- and before it there was room for one more
+pub counted_most : {s : State} (n : ℕ) → n ≤ 2199023255552 → 0 < n → Counted (2199023255552 - n) s → Counted 2199023255551 s
+counted_most n l p h = record { calls = omega (arith, h.calls); offset = omega (arith, h.offset) }
+
 -- the offset of the byte behind a call
 pub offset_room : {s : State} {bs before after : List ℕ} {taken p q : ℕ} → Counted 2199023255551 s → Printed bs taken before p after q
     → s.offset + taken < 18446744073709551616

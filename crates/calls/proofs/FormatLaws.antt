@@ -1,19 +1,20 @@
 -- Laws of what is in the input: buffers, forms and places. Assumes nothing.
-use mathlib.Core.Path.{◌≡◌, refl, sym, ap, ap₂, subst, ◌∙◌}
+use mathlib.Core.Path.{◌≡◌, refl, sym, ap, ap₂, subst, transport, ◌∙◌}
 use mathlib.Core.Bool.{Bool, true, false, not, cond, ◌&&◌, ◌||◌}
 use mathlib.Core.List.{List, [], ◌∷◌}
-use Prim.Native.Nat.{ℕ, zero, suc, ◌+◌, ◌*◌, ◌≤◌, ◌<◌}
+use Prim.Native.Nat.{ℕ, zero, suc, ◌+◌, ◌-◌, ◌*◌, ◌≤◌, ◌<◌}
 use native.Mathlib.Nat.{le_trans, mul-le-mul_left}
 use native.Mathlib.Numerals.{add-one}
 use native.Mathlib.Omega.{arith}
 use native.Mathlib.Decide.{dec_lt}
 use lib.Dec.{eqb, leb, ltb}
 use lib.ListN.{length, get_or, get_or-eq_default}
-use borrow.Author.Tests.{eqb-true, eqb-false, not-true, leb-true, ltb-true, ne_eqb, le-leb, lt-ltb}
+use borrow.Author.Tests.{eqb-true, eqb-false, not-true, leb-true, ltb-true, ne_eqb, le-leb, lt-leb, lt-ltb}
 use Rattle.bits.specs.Bits.{some}
-use Rattle.bits.proofs.TestLaws.{clash, and_left, and_right, false_when}
-use Rattle.calls.specs.Format.{many, is_buffer, is_over, after_numbers, after_buffer, table, form_of, width, place_of, place, form_end, Found, no_form, Whole, Tagged, Held}
+use Rattle.bits.proofs.TestLaws.{clash, same_test, and_left, and_right, false_when}
+use Rattle.calls.specs.Format.{many, is_buffer, is_over, after_numbers, after_buffer, table, form_of, width, place_of, place, form_end, has_over, Found, no_form, Whole, Tagged, Held}
 use Rattle.calls.specs.declared.input.Form.{Form}
+use Rattle.calls.specs.declared.input.Reach.{Reach}
 
 -- ---- buffers
 
@@ -143,11 +144,33 @@ small_form tag = small_at table refl tag
 pub small_by : {f : Form} (tag : ℕ) → f ≡ form_of tag → Small f
 small_by tag e = subst Small (sym e) (small_form tag)
 
+-- whether n bytes are there
+pub reaches_not : (len p n : ℕ) → len < p → false ≡ leb (p + n) len
+reaches_not len p n h = sym (lt-leb (p + n) len (omega arith))
+
+pub reaches_so : (len p n : ℕ) → p ≤ len → leb n (len - p) ≡ leb (p + n) len
+reaches_so len p n h =
+    same_test (leb n (len - p)) (leb (p + n) len) (λ e. le-leb (p + n) len (omega (arith, leb-true n (len - p) e))) (λ e. le-leb n (len - p) (omega (arith, leb-true (p + n) len e)))
+
 -- a tag that is none of 1 to 7
-pub no_form_lem : (tag : ℕ) → (0 < tag → 7 < tag) → no_form ≡ form_of tag
+pub no_form_past : (tag : ℕ) → (0 < tag → 7 < tag) → no_form ≡ form_of tag
+unfolding form_of table
+no_form_past zero h = refl
+no_form_past (suc tag) h = sym (get_or-eq_default table no_form {n = suc tag} (h (omega arith)))
+
+-- a tag that is none of 1 to n
+abbrev NoneTo : ℕ → ℕ → Type 0
+NoneTo zero tag = Unit {0}
+NoneTo (suc n) tag = NoneTo n tag × (tag ≡ suc n → ⊥)
+
+past : (n tag : ℕ) → NoneTo n tag → 0 < tag → n < tag
+past zero tag h l = l
+past (suc n) tag (h, k) l = let p = past n tag h l in omega arith
+
+pub no_form_lem : (tag : ℕ) → NoneTo 7 tag → no_form ≡ form_of tag
 unfolding form_of table
 no_form_lem zero h = refl
-no_form_lem (suc tag) h = sym (get_or-eq_default table no_form {n = suc tag} (h (omega arith)))
+no_form_lem (suc tag) h = sym (get_or-eq_default table no_form {n = suc tag} (past 7 (suc tag) h (omega arith)))
 
 -- the end of a call, whichever way it is judged
 pub form_cases : (bs : List ℕ) (f : Form) (P : ℕ → Type 0) → P (place_of bs f f.buffers) → P 0 → P (form_end bs f)
@@ -224,3 +247,9 @@ held_stands {bs} {tag} {i} {w} h e =
 -- buffer i of a call whose tag is t
 pub held : {bs : List ℕ} {tag : ℕ} (t i : ℕ) → Tagged bs tag t → Held bs tag i (width t i)
 held t i h = record { wide = ap (λ x. width x i) h.is; whole = h.whole }
+
+pub found_last : (bs : List ℕ) {f g : Form} {i j : ℕ} {r : Reach} → f ≡ g → j ≡ i → Found bs f j r → Found bs g i r
+found_last bs {r = r} e k h = transport (λ x. Found bs (e x) (k x) r) h
+
+pub over_done : (bs : List ℕ) (f : Form) (tag : ℕ) {t : Bool} → f ≡ form_of tag → t ≡ some f.buffers (λ i. is_over bs (place bs tag i)) → t ≡ has_over bs (form_of tag)
+over_done bs f tag e h = h ∙ ap (λ g. some g.buffers (λ i. is_over bs (place bs tag i))) e

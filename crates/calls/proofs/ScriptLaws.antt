@@ -7,7 +7,7 @@ use native.Mathlib.Numerals.{add-one}
 use native.Mathlib.Omega.{arith}
 use lib.Dec.{lit<}
 use lib.ListN.{length, get_or, take, drop, set, length-take, length-drop, length-append, length-set}
-use lib.Seq.{take-suc-set}
+use lib.Seq.{take-suc-set, take_all}
 use Rattle.bits.proofs.FirstLaws.{first_under}
 use Rattle.grid_promises.specs.declared.ReadAnswer.{ReadAnswer}
 use Rattle.fragment_promises.specs.declared.Transfer.{Transfer}
@@ -88,7 +88,21 @@ module _ {m n k : ℕ} {bytes script before : List ℕ} where
         after = rw here (subst (λ j. After m n k bytes script before j u used' after (take (i + 1) steps ++ (x ∷ []))) (sym (add-one i)) (stepped h.after l d));
       }
 
--- ---- no second end
+  -- ---- no second end
+
+  pub run_done : {i used : ℕ} {out after steps : List ℕ} {t : Transfer} {a : ReadAnswer} → Running m n k bytes script before out steps t used i → length script ≤ i
+      → Finishes t out a after → length after ≡ length out → Scripted m n k bytes script before a after steps
+  run_done {i} {used} {out} {steps = steps} {t} h l f e =
+      let all : i ≡ length script = omega (arith, h.within) in
+      record {
+        last = t;
+        used = used;
+        before = out;
+        steps = subst (After m n k bytes script before (length script) t used out) (take_all (length script + 1) steps (omega (arith, h.room)))
+            (subst (λ j. After m n k bytes script before j t used out (take (j + 1) steps)) all h.after);
+        ends = f;
+        long = e;
+      }
 
 one_step : {bytes out after after' : List ℕ} {m n k b used p p' x x' : ℕ} {t u u' : Transfer} → Stepped m n k bytes b t used out x u p after
     → Stepped m n k bytes b t used out x' u' p' after' → (x ≡ x') × (u ≡ u') × (p ≡ p') × (after ≡ after')

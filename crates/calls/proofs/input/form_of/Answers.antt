@@ -1,7 +1,7 @@
 use native.Mathlib.Omega.{arith}
 use mathlib.Core.Path.{sym, ap, ◌∙◌}
 use Rattle.calls.specs.Format.{table, form_of}
-use Rattle.calls.proofs.FormatLaws.{no_form_lem}
+use Rattle.calls.proofs.FormatLaws.{no_form_past}
 use Rattle.calls.proofs.input.form_of.Goals as goal
 
 pub returns-in-1 : goal.returns-in-1
@@ -34,4 +34,4 @@ returns-in-7 c = c.shape-in-7.ensures ∙ ap form_of (sym c.in-7.is)
 
 pub returns-in_default : goal.returns-in_default
 unfolding table form_of
-returns-in_default c = c.shape-in_default.ensures ∙ no_form_lem _ (λ h. omega arith)
+returns-in_default c = c.shape-in_default.ensures ∙ no_form_past _ (λ h. omega arith)
