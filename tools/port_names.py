@@ -41,10 +41,10 @@ def definitions():
                 imported.update(x.strip().split(" as ")[-1] for x in use[2].split(","))
             code = re.sub(r"--.*", "", line)
             alias = re.match(r"^use \S+ as (\S+)$", code.strip())
-            several = re.match(r"^ +((?:[a-z][^\s(){}\[\],;.:]* ){2,}): [A-Z]\w*$", code)
+            several = re.match(r"^ +(?!pub )((?:[a-z][^\s(){}\[\],;.:]* ){2,}): [A-Z]\w*$", code)
             for name in ([alias[1]] if alias else []) + (several[1].split() if several else []):
-                if spelled(name) != name:
-                    found[name].add("specs" if kind == "specs" else "place")
+                if kind != "place" and name[0].islower() and spelled(name) != name:
+                    found[name].add("specs" if kind == "specs" else "proofs")
             head = HEAD.match(code)
             if head and not head[3][0].isupper() and "◌" not in head[3] and not (kind == "place" and GENERATED.match(head[3])):
                 found[head[3]].add("claims" if path.name == "Claims.antt" and kind == "specs" else kind)
