@@ -25,7 +25,7 @@ def antt_files():
 
 
 def spelled(name):
-    name = re.sub(r"(?<=[a-z0-9])([A-Z])", lambda m: "_" + m[1].lower(), name.replace("getD", "get_or"))
+    name = re.sub(r"(?<=[a-z0-9])([A-Z])", lambda m: "_" + m[1].lower(), name.replace("getD", "get_or").replace("get_d_", "get_or_"))
     return name.replace("-", "_")
 
 

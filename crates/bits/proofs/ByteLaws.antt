@@ -17,11 +17,11 @@ pub past_end : (xs : List ℕ) (i : ℕ) → length xs ≤ i → get_or xs i 0 �
 past_end xs i h = get_or-eq_default xs 0 h
 
 -- what is cut off at the end does not count before it
-pub get_d_take : (n : ℕ) (xs : List ℕ) (i : ℕ) → i < n → get_or (take n xs) i 0 ≡ get_or xs i 0
-get_d_take zero xs i l = absurd (omega arith)
-get_d_take (suc n) [] i l = refl
-get_d_take (suc n) (x ∷ xs) zero l = refl
-get_d_take (suc n) (x ∷ xs) (suc i) l = get_d_take n xs i (omega arith)
+pub get_or_take : (n : ℕ) (xs : List ℕ) (i : ℕ) → i < n → get_or (take n xs) i 0 ≡ get_or xs i 0
+get_or_take zero xs i l = absurd (omega arith)
+get_or_take (suc n) [] i l = refl
+get_or_take (suc n) (x ∷ xs) zero l = refl
+get_or_take (suc n) (x ∷ xs) (suc i) l = get_or_take n xs i (omega arith)
 
 -- elements of a list of m are below b where those that it has are
 pub below_all : (m b : ℕ) (xs : List ℕ) → 0 < b → length xs ≡ m → ((i : ℕ) → i < m → get_or xs i 0 < b) → Below b xs
@@ -41,16 +41,16 @@ pub length_words : (m n : ℕ) (f : ℕ → ℕ → Bool) → length (words m n 
 unfolding words
 length_words m n f = length_list m (λ i. word n (f i))
 
-pub get_d_words : (m n : ℕ) (f : ℕ → ℕ → Bool) (i : ℕ) → i < m → get_or (words m n f) i 0 ≡ word n (f i)
+pub get_or_words : (m n : ℕ) (f : ℕ → ℕ → Bool) (i : ℕ) → i < m → get_or (words m n f) i 0 ≡ word n (f i)
 unfolding words
-get_d_words m n f i h = get_or_list m (λ i. word n (f i)) 0 i h
+get_or_words m n f i h = get_or_list m (λ i. word n (f i)) 0 i h
 
 pub words_below : (m n : ℕ) (f : ℕ → ℕ → Bool) → Below (2 ^ n) (words m n f)
-words_below m n f = below_all m (2 ^ n) (words m n f) (pow_pos n) (length_words m n f) (λ i h. rw (get_d_words m n f i h) (word_lt n (f i)))
+words_below m n f = below_all m (2 ^ n) (words m n f) (pow_pos n) (length_words m n f) (λ i h. rw (get_or_words m n f i h) (word_lt n (f i)))
 
 -- bit j of word i
 pub has_words : (m n : ℕ) (f : ℕ → ℕ → Bool) (i j : ℕ) → i < m → j < n → has (get_or (words m n f) i 0) j ≡ f i j
-has_words m n f i j h l = rw (get_d_words m n f i h) (has_word n (f i) j l)
+has_words m n f i j h l = rw (get_or_words m n f i h) (has_word n (f i) j l)
 
 pub words_ext : (m n : ℕ) (f g : ℕ → ℕ → Bool) → ((i j : ℕ) → i < m → j < n → f i j ≡ g i j) → words m n f ≡ words m n g
 unfolding words

@@ -13,7 +13,7 @@ use Rattle.bits.specs.Bits.{list, has, at, number, digits, Below}
 use Rattle.bits.proofs.TestLaws.{clash, lt_or_le}
 use Rattle.bits.proofs.BoundLaws.{length_list, list_get_or, get_or_list}
 use Rattle.bits.proofs.BitLaws.{has_zero, has_high}
-use Rattle.bits.proofs.ByteLaws.{past_end, get_d_take, below_all}
+use Rattle.bits.proofs.ByteLaws.{past_end, get_or_take, below_all}
 use Rattle.bits.proofs.DigitLaws.{number_lt, number_digits, length_digits, digits_below, byte_bit}
 use Rattle.rdis.specs.Block.{bit}
 use Rattle.grid_promises.specs.Refusals.{Past, ReadLengths}
@@ -37,7 +37,7 @@ whole_lengths m n k bs out e l =
 
 pub below_part : (p q : ℕ) (bs : List ℕ) → Below 256 bs → Below 256 (take q (drop p bs))
 below_part p q bs h i =
-    ⊎_elim (λ l. rw (get_d_take q (drop p bs) i l, get_or-drop) (h (p + i)))
+    ⊎_elim (λ l. rw (get_or_take q (drop p bs) i l, get_or-drop) (h (p + i)))
     (λ l. rw (past_end (take q (drop p bs)) i (omega (arith, length-take q (drop p bs)))) (omega arith)) (lt_or_le i q)
 
 -- bit j of the eight bytes from byte p on
@@ -47,7 +47,7 @@ part_bit p j bs h l =
     let here : p + j / 8 ≡ (8 * p + j) / 8 = omega arith in
     let rest : j % 8 ≡ (8 * p + j) % 8 = omega arith in
     sym (byte_bit (take 8 (drop p bs)) j (below_part p 8 bs h))
-    ∙ ap (λ x. has x (j % 8)) (get_d_take 8 (drop p bs) (j / 8) (omega arith) ∙ get_or-drop p bs (j / 8) 0)
+    ∙ ap (λ x. has x (j % 8)) (get_or_take 8 (drop p bs) (j / 8) (omega arith) ∙ get_or-drop p bs (j / 8) 0)
     ∙ ap₂ (λ i q. has (get_or bs i 0) q) here rest
 
 -- bit j of cell word i

@@ -7,7 +7,7 @@ use native.Mathlib.Omega.{arith}
 use lib.ListN.{length, get_or, take, drop, length-append, length-drop, get_or-append}
 use lib.Seq.{take_at, length-take-le, get_or-append-add, get_or-drop}
 use Rattle.bits.proofs.TestLaws.{lt_or_le}
-use Rattle.bits.proofs.ByteLaws.{get_d_take}
+use Rattle.bits.proofs.ByteLaws.{get_or_take}
 
 -- a place is one of the n from place p on, or another
 pub by_place : (P : ℕ → Type 0) (p n i : ℕ) → ((i < p) ⊎ (p + n ≤ i) → P i) → ((j : ℕ) → j < n → P (p + j)) → P i
@@ -37,7 +37,7 @@ module _ (p : ℕ) (d bs : List ℕ) (fits : p + length bs ≤ length d) where
   pub put_before : (i : ℕ) → i < p → get_or put i 0 ≡ get_or d i 0
   put_before i l =
       get_or-append (take p d ++ bs) (drop (p + length bs) d) 0 i (omega (arith, upto))
-      ∙ get_or-append (take p d) bs 0 i (omega (arith, front)) ∙ get_d_take p d i l
+      ∙ get_or-append (take p d) bs 0 i (omega (arith, front)) ∙ get_or_take p d i l
 
   pub put_after : (i : ℕ) → p + length bs ≤ i → get_or put i 0 ≡ get_or d i 0
   put_after i l =

@@ -125,7 +125,7 @@ fn judge(rows: usize, columns: usize, k: usize, taken: usize, more: usize) -> Ju
     }
 }
 
-// Takes a lump of bytes, or notes that it is refused. The array has the length that its type says: a proof does not see that through a reference.
+// Takes a lump of bytes, or notes that it is refused.
 pub fn lump_at(
     taken: &mut usize,
     bytes: &mut [u8; LONGEST],
@@ -134,7 +134,7 @@ pub fn lump_at(
     k: usize,
     lump: &[u8],
 ) -> usize
-    ensures { length bytes.old ≡ 560 → Lump (transfer rows columns k taken.old bytes.old) lump.now result (transfer rows columns k taken.new bytes.new) }
+    ensures { Lump (transfer rows columns k taken.old bytes.old) lump.now result (transfer rows columns k taken.new bytes.new) }
 {
     let at = *taken;
     let j = judge(rows, columns, k, at, lump.len());

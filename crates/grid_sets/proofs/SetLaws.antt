@@ -17,7 +17,7 @@ use Rattle.bits.specs.Bits.{num, some, first, sum, most, has, word, words}
 use Rattle.bits.proofs.TestLaws.{clash, same_test, lt_or_le, and_in, and_left, and_right}
 use Rattle.bits.proofs.BoundLaws.{some_ext, some_join, IsFirst, first_is, first_in_front, first_behind, sum_ext, sum_below}
 use Rattle.bits.proofs.BitLaws.{has_high, has_zero, has_word, word_lt, some_has, lowest_set, lowest_below, below_lowest}
-use Rattle.bits.proofs.ByteLaws.{get_d_words, has_words, words_below, words_ext}
+use Rattle.bits.proofs.ByteLaws.{get_or_words, has_words, words_below, words_ext}
 use Rattle.rdis.specs.Cells.{flips}
 use Rattle.grid_sets.specs.Sets.{sets_of, times, crossings, odd, some_line, first_line, filled}
 
@@ -47,7 +47,7 @@ word_some n g =
 -- set s has a line exactly if some counter is above s
 pub set_some : (n s : ℕ) (f : ℕ → ℕ) → s < 8 → not (eqb (get_or (sets_of n f) s 0) 0) ≡ some n (λ i. ltb s (f i))
 unfolding sets_of
-set_some n s f h = ap (λ x. not (eqb x 0)) (get_d_words 8 n (λ s i. ltb s (f i)) s h) ∙ word_some n (λ i. ltb s (f i))
+set_some n s f h = ap (λ x. not (eqb x 0)) (get_or_words 8 n (λ s i. ltb s (f i)) s h) ∙ word_some n (λ i. ltb s (f i))
 
 neither : (x y : Bool) → not (x && y) ≡ not y || not x
 neither true true = refl

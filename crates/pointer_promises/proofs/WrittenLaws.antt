@@ -39,24 +39,24 @@ module _ (wanted mask values es : List ℕ) where
   length_after = length-map (es ++ fresh) (renewed wanted) ∙ length-append es fresh ∙ ap (λ k. length es + k) length_fresh
 
   -- entry e of them
-  get_d_after : (e : ℕ) → e < length es + needed wanted mask values es → get_or (after wanted mask values es) e 0 ≡ renewed wanted (get_or (es ++ fresh) e 0)
+  get_or_after : (e : ℕ) → e < length es + needed wanted mask values es → get_or (after wanted mask values es) e 0 ≡ renewed wanted (get_or (es ++ fresh) e 0)
   unfolding after fresh
-  get_d_after e h = get_or_renewed wanted (es ++ fresh) e (omega (arith, length-append es fresh, length_fresh))
+  get_or_after e h = get_or_renewed wanted (es ++ fresh) e (omega (arith, length-append es fresh, length_fresh))
 
   pub after_below : Below 1024 (after wanted mask values es)
   after_below =
       below_all (length es + needed wanted mask values es) 1024 (after wanted mask values es) (omega arith) length_after
-      (λ e h. rw (get_d_after e h) (renewed_lt wanted (get_or (es ++ fresh) e 0)))
+      (λ e h. rw (get_or_after e h) (renewed_lt wanted (get_or (es ++ fresh) e 0)))
 
   pub after_replacement : (e : ℕ) → e < length es + needed wanted mask values es
       → replacement (get_or (after wanted mask values es) e 0) ≡ at wanted (pointer (get_or (after wanted mask values es) e 0))
   after_replacement e h =
-      ap replacement (get_d_after e h) ∙ renewed_replacement wanted (get_or (es ++ fresh) e 0)
-      ∙ ap (at wanted) (sym (ap pointer (get_d_after e h) ∙ renewed_pointer wanted (get_or (es ++ fresh) e 0)))
+      ap replacement (get_or_after e h) ∙ renewed_replacement wanted (get_or (es ++ fresh) e 0)
+      ∙ ap (at wanted) (sym (ap pointer (get_or_after e h) ∙ renewed_pointer wanted (get_or (es ++ fresh) e 0)))
 
   -- the old ones keep their place and pointer
   pub after_old : (e : ℕ) → e < length es → pointer (get_or (after wanted mask values es) e 0) ≡ pointer (get_or es e 0)
-  after_old e h = ap pointer (get_d_after e (omega arith)) ∙ renewed_pointer wanted (get_or (es ++ fresh) e 0) ∙ ap pointer (get_or-append es fresh 0 e h)
+  after_old e h = ap pointer (get_or_after e (omega arith)) ∙ renewed_pointer wanted (get_or (es ++ fresh) e 0) ∙ ap pointer (get_or-append es fresh 0 e h)
 
   -- the new ones name the unserved positions in rising order
   fresh_rising : Rising (unserved wanted mask values es) 512 fresh
@@ -66,7 +66,7 @@ module _ (wanted mask values es : List ℕ) where
   after_new : (e : ℕ) → length es ≤ e → e < length es + needed wanted mask values es → pointer (get_or (after wanted mask values es) e 0) ≡ get_or fresh (e - length es) 0
   after_new e k h =
       let q : e ≡ length es + (e - length es) = omega arith in
-      ap pointer (get_d_after e h) ∙ renewed_pointer wanted (get_or (es ++ fresh) e 0) ∙ ap (λ x. pointer (get_or (es ++ fresh) x 0)) q
+      ap pointer (get_or_after e h) ∙ renewed_pointer wanted (get_or (es ++ fresh) e 0) ∙ ap (λ x. pointer (get_or (es ++ fresh) x 0)) q
       ∙ ap pointer (get_or-append-add es fresh (e - length es) 0) ∙ mod-eq_of_lt (fresh_rising.bound (e - length es) (omega (arith, length_fresh)))
 
   pub after_serves : (e : ℕ) → length es ≤ e → e < length es + needed wanted mask values es → unserved wanted mask values es (pointer (get_or (after wanted mask values es) e 0)) ≡ true

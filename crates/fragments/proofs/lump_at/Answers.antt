@@ -20,7 +20,7 @@ fits : (g : After-judge-j) → let a = g.args in
 fits g = judged_room (lent g) g.judge-j.result g.args.lump.now g.judge-j.ensures
 
 pub loop-i-init : goal.loop-i-init
-loop-i-init c = let a = c.args in (omega arith, λ _. paste-zero a.bytes.now a.taken.now a.lump.now)
+loop-i-init c = let a = c.args in (omega arith, paste-zero a.bytes.now a.taken.now a.lump.now)
 
 pub bounds-lump-i : goal.bounds-lump-i
 bounds-lump-i c = omega (arith, (fits (goal.at.bounds-lump-i c).After-judge-j).0, c.loop-i-test.true)
@@ -39,19 +39,17 @@ loop-i-preserved c =
     let g = (goal.at.loop-i-preserved c).After-judge-j in
     let l = c.loop-i in
     let a = c.args in
-    let t = c.loop-i-test.true in (
+    (
       omega arith,
-      λ room.
-          put_more a.bytes.now a.lump.now l.bytes a.taken.now l.i (omega (arith, room, (fits g).1 l.i t)) (omega (arith, (fits g).0))
-          (l.invariant.1 room),
+      put_more a.bytes.now a.lump.now l.bytes a.taken.now l.i (omega (arith, c.told-bytes, (fits g).1 l.i c.loop-i-test.true)) (omega (arith, (fits g).0)) l.invariant.1,
     )
 
 pub returns : goal.returns
-returns c room =
+returns c =
     let g = (goal.at.returns c).After-judge-j in
     let l = c.loop-i in
     let a = c.args in
-    let e : l.i ≡ c.judge-j.result.more = omega (arith, l.invariant.0, c.loop-i-test.false) in
-    subst (λ x. Lump (lent g) a.lump.now c.judge-j.result.number (transfer a.rows a.columns a.k c.judge-j.result.taken x))
-    (sym (l.invariant.1 room ∙ ap (paste a.bytes.now a.taken.now a.lump.now) e))
-    (judged_lump (lent g) c.judge-j.result a.lump.now room c.judge-j.ensures)
+    let j = c.judge-j in
+    let e : l.i ≡ j.result.more = omega (arith, l.invariant.0, c.loop-i-test.false) in
+    subst (λ x. Lump (lent g) a.lump.now j.result.number (transfer a.rows a.columns a.k j.result.taken x))
+    (sym (l.invariant.1 ∙ ap (paste a.bytes.now a.taken.now a.lump.now) e)) (judged_lump (lent g) j.result a.lump.now c.told-bytes j.ensures)
