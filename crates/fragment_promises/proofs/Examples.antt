@@ -1,12 +1,12 @@
 -- One transfer by its promises: the block of case G2, 1 by 1 at K = 1, in lumps of four and of five bytes, with a finish after each. Assumes nothing.
-use Prim.Native.Nat.{ℕ, zero, suc, ◌<◌}
+use Prim.Native.Nat.{ℕ, zero, suc}
 use mathlib.Core.Path.{◌≡◌, refl}
 use mathlib.Core.Bool.{xor}
 use mathlib.Core.List.{List, [], ◌∷◌}
 use native.Mathlib.Omega.{arith}
 use lib.Dec.{lit<}
 use lib.ListN.{take, replicate}
-use Rattle.bits.specs.Bits.{some, first, list, has, word, words, number, Below}
+use Rattle.bits.specs.Bits.{some, list, has, word, words, number, Below}
 use Rattle.rdis.specs.Block.{bit}
 use Rattle.rdis.specs.Cells.{flips, reading}
 use Rattle.rdis.specs.Packing.{width, bytes_for, counter, above, spare_clear}

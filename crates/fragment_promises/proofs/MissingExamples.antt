@@ -1,5 +1,5 @@
 -- How many bytes of case G2's block are missing, as its lumps come, and of a block that is not square. Assumes nothing.
-use mathlib.Core.Path.{◌≡◌, refl}
+use mathlib.Core.Path.{refl}
 use mathlib.Core.List.{[], ◌∷◌}
 use native.Mathlib.Omega.{arith}
 use Rattle.rdis.specs.Packing.{width, bytes_for}

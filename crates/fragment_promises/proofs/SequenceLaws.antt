@@ -17,7 +17,7 @@ use Rattle.fragment_promises.specs.declared.MissingAnswer.{MissingAnswer}
 use Rattle.fragment_promises.specs.Transfers.{size, size_of, standing_of, held, started, lumped}
 use Rattle.fragment_promises.specs.Demands.{Told, Good, StartDemands, LumpDemands, finish_refusals, FinishDemands, missing_refusals, MissingDemands}
 use Rattle.fragment_promises.specs.Promises.{FinishesBy, MissesBy}
-use Rattle.fragment_promises.specs.Sequences.{Event, start, lump, finish, Calls, none, starts, takes, ends, asks, run, AsDefined, Story, begun, tell, story, Fine, whole, EveryLump, EveryFinish, EveryMissing}
+use Rattle.fragment_promises.specs.Sequences.{Event, start, lump, Calls, none, starts, takes, ends, asks, run, AsDefined, Story, begun, tell, story, Fine, whole, EveryLump, EveryFinish, EveryMissing}
 use Rattle.fragment_promises.proofs.PutLaws.{length_put, take_put}
 use Rattle.fragment_promises.proofs.StandingLaws.{size_most, well_good, well_size, ill, by_lump}
 use Rattle.fragment_promises.proofs.StepLaws.{start_promise, one_start_by_demands, lump_exactly}

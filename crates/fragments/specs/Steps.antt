@@ -1,7 +1,5 @@
 -- How a lump is judged. Assumes nothing.
-use Rattle.std.specs.Prelude.{ℕ, ◌+◌, ◌<◌, ◌≤◌, ◌≡◌, List, [], ◌∷◌, ◌≢◌}
-use Rattle.bits.specs.First.{Refusal, ◌when◌}
-use Rattle.grid_promises.specs.Refusals.{InRange}
+use Rattle.std.specs.Prelude.{ℕ, ◌+◌, ◌<◌, ◌≤◌, ◌≡◌}
 use Rattle.fragment_promises.specs.Transfers.{size, standing}
 use Rattle.fragments.specs.declared.Judged.{Judged}
 

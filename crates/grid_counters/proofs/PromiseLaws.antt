@@ -10,7 +10,6 @@ use borrow.Author.Tests.{ltb-true, lt-ltb, le-ltb}
 use lib.Dec.{ltb}
 use lib.ListN.{length, replicate}
 use lib.Pow.{pow_pos, pow_mono}
-use Rattle.bits.specs.Bits.{number}
 use Rattle.bits.proofs.TestLaws.{clash, and_left, lt_or_le}
 use Rattle.bits.proofs.BoundLaws.{some_none}
 use Rattle.rdis.specs.Packing.{width, counter, row_counter, column_counter, spare_clear, above, first_above}

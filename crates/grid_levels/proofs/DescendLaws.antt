@@ -12,7 +12,6 @@ use Rattle.bits.specs.Bits.{num, sum, has}
 use Rattle.bits.proofs.TestLaws.{false_when}
 use Rattle.bits.proofs.BoundLaws.{sum_ext}
 use Rattle.bits.proofs.BitLaws.{word_lt}
-use Rattle.rdis.specs.Block as Block
 use Rattle.rdis.specs.Block.{Block}
 use Rattle.rdis.specs.Levels.{Subgrid, takes, taken, left, Outcome, masked, unmaskable, more, levels}
 use Rattle.rdis.proofs.LevelLaws.{levels_none, levels_stop, levels_next, left_rows}

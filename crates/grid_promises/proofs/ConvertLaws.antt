@@ -18,7 +18,7 @@ use Rattle.bits.proofs.ByteLaws.{below_all}
 use Rattle.rdis.specs.Packing.{width, packed, unpacked, counter, spare_clear}
 use Rattle.rdis.specs.Theorems.{Packs}
 use Rattle.rdis.proofs.PackingLaws.{width_holds, packed_only, length_unpacked, counter_unpacked, counter_packed}
-use Rattle.grid_promises.specs.Refusals.{Spare, Held, Above}
+use Rattle.grid_promises.specs.Refusals.{Held, Above}
 use Rattle.grid_promises.specs.Demands.{WellFormed}
 use Rattle.grid_promises.specs.Conversion.{convert_in_range, convert_sized, convert_number, ConvertInRange, ConvertLengths}
 use Rattle.grid_promises.specs.Conversion.{convert_refusals}

@@ -13,7 +13,7 @@ use Rattle.rdis.specs.Theorems.{with_values, SameWrite}
 use Rattle.rdis.proofs.SoundLaws.{sound_ignored}
 use Rattle.grid_promises.specs.Calls.{past, read_number, plan_number, store_number, used, rows_of, columns_of, bad_index}
 use Rattle.grid_promises.specs.Demands.{CountsNothing, Untouched, CountsKinds}
-use Rattle.grid_promises.specs.Promises.{ReadExactly, PlanExactly, StoreExactly}
+use Rattle.grid_promises.specs.Promises.{PlanExactly, StoreExactly}
 use Rattle.grid_promises.specs.Theorems.{OneRead, OnePlan, OneStore, OutputMeasured, OldCountersMeasured, OldCellsMeasured, SameWhereStuck, PlanIgnoresSound, StoreIgnoresSound}
 use Rattle.grid_promises.specs.declared.ReadAnswer.{ReadAnswer}
 use Rattle.grid_promises.specs.declared.Answer.{Answer}

@@ -6,7 +6,7 @@ use mathlib.Core.List.{List}
 use mathlib.Core.Logic.{◌↔◌, inl, inr}
 use native.Mathlib.Omega.{arith}
 use lib.ListN.{length}
-use Rattle.bits.specs.Bits.{most, Below}
+use Rattle.bits.specs.Bits.{Below}
 use Rattle.bits.specs.First.{First}
 use Rattle.bits.proofs.TestLaws.{iff_false, false_iff, iff_stable}
 use Rattle.bits.proofs.FirstLaws.{hit, miss, last, NoneOf}

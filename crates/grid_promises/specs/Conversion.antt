@@ -11,7 +11,6 @@ use Rattle.grid_promises.specs.Refusals.{InRange, Spare, Held, Above}
 use Rattle.grid_promises.specs.Demands.{Names, WellFormed, ReadDemands, PlanDemands, StoreDemands}
 use Rattle.grid_promises.specs.Promises.{Read}
 use Rattle.grid_promises.specs.declared.ConvertAnswer.{ConvertAnswer}
-use Rattle.grid_promises.specs.declared.ReadAnswer.{ReadAnswer}
 use Rattle.grid_promises.specs.declared.Answer.{Answer}
 
 -- ---- the number: of the output only the length counts

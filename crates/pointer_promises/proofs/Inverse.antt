@@ -10,7 +10,7 @@ use lib.ListN.{replicate, length-replicate}
 use Rattle.bits.specs.Bits.{has, word}
 use Rattle.bits.proofs.BitLaws.{has_zero}
 use Rattle.bits.proofs.ByteLaws.{get_or_zeros, at_zeros, is_bytes}
-use Rattle.pointer_promises.specs.Pointer.{size, active, unary, idle, repeats, metadata_bit, encode}
+use Rattle.pointer_promises.specs.Pointer.{size, unary, idle, repeats, metadata_bit, encode}
 use Rattle.pointer_promises.specs.Theorems.{Fits, DecodeEncode, EncodeDecode, FreshRow}
 use Rattle.pointer_promises.proofs.CodecLaws.{slot_idle, active_encode, held_encode, verdict_encode, encode_held}
 use Rattle.pointer_promises.proofs.NumberLaws.{verdict_zero}

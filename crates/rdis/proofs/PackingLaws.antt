@@ -11,7 +11,7 @@ use lib.Dec.{leb, lit<}
 use lib.ListN.{length, get_or, length-append, get_or-append}
 use lib.Pow.{pow_pos, pow_mono}
 use lib.Seq.{get_or-append-add}
-use Rattle.bits.specs.Bits.{list, has, at, number, digits, Below}
+use Rattle.bits.specs.Bits.{list, has, number, digits, Below}
 use Rattle.bits.proofs.TestLaws.{lt_or_le}
 use Rattle.bits.proofs.BoundLaws.{length_list, get_or_list, list_get_or}
 use Rattle.bits.proofs.BitLaws.{has_low, has_high, has_shr, none_high}

@@ -1,4 +1,4 @@
-use Prim.Native.Nat.{ℕ, ◌≤◌, ◌<◌, ◌+◌, ◌-◌}
+use Prim.Native.Nat.{ℕ, ◌≤◌, ◌<◌, ◌+◌}
 use mathlib.Core.Path.{◌≡◌, sym, ap, subst, ◌∙◌}
 use native.Mathlib.Omega.{arith}
 use lib.ListN.{length}
@@ -38,8 +38,7 @@ pub loop-i-preserved : goal.loop-i-preserved
 loop-i-preserved c =
     let g = (goal.at.loop-i-preserved c).After-judge-j in
     let l = c.loop-i in
-    let a = c.args in
-    (
+    let a = c.args in (
       omega arith,
       put_more a.bytes.now a.lump.now l.bytes a.taken.now l.i (omega (arith, c.told-bytes, (fits g).1 l.i c.loop-i-test.true)) (omega (arith, (fits g).0)) l.invariant.1,
     )

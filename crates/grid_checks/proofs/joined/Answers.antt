@@ -1,4 +1,3 @@
-use Prim.Native.Nat.{◌-◌}
 use native.Mathlib.Omega.{arith}
 use Rattle.grid_checks.proofs.JudgeLaws.{join_none, join_more, join_done}
 use Rattle.grid_checks.proofs.joined.Goals as goal

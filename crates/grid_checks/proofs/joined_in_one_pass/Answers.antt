@@ -1,4 +1,3 @@
-use Prim.Native.Nat.{◌-◌}
 use native.Mathlib.Omega.{arith}
 use Rattle.grid_checks.proofs.JudgeLaws.{three_none, three_more, three_done}
 use Rattle.grid_checks.proofs.joined_in_one_pass.Goals as goal

@@ -1,4 +1,3 @@
-use Prim.Native.Nat.{◌-◌}
 use native.Mathlib.Omega.{arith}
 use Rattle.grid.proofs.MisreadLaws.{seen_none, seen_more, seen_some}
 use Rattle.grid.proofs.stores.misreads.Goals as goal

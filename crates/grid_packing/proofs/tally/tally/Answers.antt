@@ -1,6 +1,5 @@
 use native.Mathlib.Omega.{arith}
 use mathlib.Core.Path.{◌≡◌, subst}
-use Prim.Native.Nat.{◌-◌}
 use Rattle.grid_sets.specs.Sets.{times}
 use Rattle.grid_sets.specs.Planes.{AreBits}
 use Rattle.grid_packing.proofs.TallyLaws.{times_none, times_step, masked_planes}

@@ -1,6 +1,5 @@
 use native.Mathlib.Omega.{arith}
 use mathlib.Core.Path.{◌≡◌, subst}
-use Prim.Native.Nat.{◌-◌}
 use Rattle.grid_sets.specs.Sets.{times}
 use Rattle.grid_sets.specs.Planes.{AreThrees}
 use Rattle.grid_packing.proofs.TallyLaws.{times_none, masked_plane, masked_planes}

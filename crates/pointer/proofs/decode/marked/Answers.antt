@@ -1,4 +1,3 @@
-use Prim.Native.Nat.{◌-◌}
 use native.Mathlib.Omega.{arith}
 use Rattle.pointer.proofs.DecodeLaws.{mark_start, mark_more, mark_done}
 use Rattle.pointer.proofs.decode.marked.Goals as goal

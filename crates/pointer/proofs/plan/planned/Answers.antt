@@ -1,4 +1,4 @@
-use Prim.Native.Nat.{◌+◌, ◌-◌, ◌≤◌, ◌<◌}
+use Prim.Native.Nat.{◌+◌, ◌≤◌, ◌<◌}
 use borrow.Author.Tests.{ltb-true, leb-true}
 use lib.Count.{count_trailing_zeros}
 use lib.Dec.{ltb, leb}
