@@ -1,11 +1,11 @@
 -- How many calls were made, and how many bytes they took: so few that neither number is ever too large. Assumes nothing.
-use mathlib.Core.Path.{◌≡◌, refl, ap, subst}
+use mathlib.Core.Path.{◌≡◌, refl, ap}
 use mathlib.Core.Bool.{Bool}
 use mathlib.Core.List.{List, [], ◌++◌}
-use Prim.Native.Nat.{ℕ, suc, ◌+◌, ◌-◌, ◌≤◌, ◌<◌}
+use Prim.Native.Nat.{ℕ, suc, ◌+◌, ◌<◌}
 use native.Mathlib.Omega.{arith}
 use native.Mathlib.Decide.{ℕ_discrete}
-use Rattle.calls.specs.declared.State.{State}
+use Rattle.calls.specs.Stream.{State}
 use Rattle.calls.specs.Calls.{Printed}
 use Rattle.calls.specs.Stream.{left, Counted, Turned, paused, Turn, fetched, done, written, called}
 use Rattle.calls.proofs.StreamLaws.{call_most}
@@ -31,17 +31,6 @@ counted_more n h (fetched _ _ _ f _) = let (e, g) = f.counted in record { calls 
 counted_more n h (done _ _ e _ _) = paused_counted n h e
 counted_more n h (written _ _ e _ _) = paused_counted n h e
 counted_more n h (called t _) = turned_counted n h t
-
--- of m turns that are allowed, n are left, and one of them is made
-pub counted_next : {s r : State} {input output input' output' : List ℕ} (m n : ℕ) → n ≤ m → 0 < n → Counted (m - n) s → Turn s input output r input' output'
-    → Counted (m - (n - 1)) r
-counted_next {r = r} m n l p h t =
-    let e : suc (m - n) ≡ m - (n - 1) = omega arith in
-    subst (λ i. Counted i r) e (counted_more (m - n) h t)
-
--- and before it there was room for one more
-pub counted_most : {s : State} (n : ℕ) → n ≤ 2199023255552 → 0 < n → Counted (2199023255552 - n) s → Counted 2199023255551 s
-counted_most n l p h = record { calls = omega (arith, h.calls); offset = omega (arith, h.offset) }
 
 -- the offset of the byte behind a call
 pub offset_room : {s : State} {bs before after : List ℕ} {taken p q : ℕ} → Counted 2199023255551 s → Printed bs taken before p after q

@@ -16,7 +16,7 @@ use Rattle.bits.proofs.BoundLaws.{none_below}
 use Rattle.words.proofs.LoadLaws.{number_before}
 use Rattle.calls.specs.Format.{many, is_buffer, is_over, after_numbers, after_buffer, table, form_of, place_of, form_end, is_bad, call_end, is_cut_short}
 use Rattle.calls.specs.Claims.{MayBeCall}
-use Rattle.calls.specs.declared.input.Form.{Form}
+use Rattle.calls.specs.declared.kind.Form.{Form}
 use Rattle.calls.proofs.FormatLaws.{Stands, a_buffer, over_is, Small, small_form, some_buffers}
 use Rattle.calls.proofs.StreamLaws.{place_most, place_more}
 

@@ -1,20 +1,27 @@
 -- Laws of what is in the input: buffers, forms and places. Assumes nothing.
-use mathlib.Core.Path.{◌≡◌, refl, sym, ap, ap₂, subst, transport, ◌∙◌}
-use mathlib.Core.Bool.{Bool, true, false, not, cond, ◌&&◌, ◌||◌}
+use mathlib.Core.Path.{◌≡◌, refl, sym, ap, ap₂, subst, ◌∙◌}
+use mathlib.Core.Bool.{Bool, true, false, not, cond, ◌&&◌}
 use mathlib.Core.List.{List, [], ◌∷◌}
 use Prim.Native.Nat.{ℕ, zero, suc, ◌+◌, ◌-◌, ◌*◌, ◌≤◌, ◌<◌}
 use native.Mathlib.Nat.{le_trans, mul-le-mul_left}
 use native.Mathlib.Numerals.{add-one}
 use native.Mathlib.Omega.{arith}
-use native.Mathlib.Decide.{dec_lt}
+use native.Mathlib.Decide.{dec_lt, ℕ_discrete}
 use lib.Dec.{eqb, leb, ltb}
 use lib.ListN.{length, get_or, get_or-eq_default}
 use borrow.Author.Tests.{eqb-true, eqb-false, not-true, leb-true, ltb-true, ne_eqb, le-leb, lt-leb, lt-ltb}
 use Rattle.bits.specs.Bits.{some}
-use Rattle.bits.proofs.TestLaws.{clash, same_test, and_left, and_right, false_when}
-use Rattle.calls.specs.Format.{many, is_buffer, is_over, after_numbers, after_buffer, table, form_of, width, place_of, place, form_end, has_over, Found, no_form, Whole, Tagged, Held}
-use Rattle.calls.specs.declared.input.Form.{Form}
-use Rattle.calls.specs.declared.input.Reach.{Reach}
+use Rattle.bits.proofs.TestLaws.{same_test, and_left, and_right, false_when}
+use Rattle.bits.proofs.BoundLaws.{some_in, some_out}
+use Rattle.calls.specs.Format.{many, is_buffer, is_over, after_numbers, after_buffer, table, form_of, width, place_of, place, form_end, has_none, no_form, Whole}
+use Rattle.std.specs.Prelude.{Result, Ok, Err, IsOk}
+use borrow.Author.Rules.{rules}
+use Rattle.calls.specs.Kinds.{tag_of, why, Found}
+use Rattle.calls.specs.declared.kind.Bad.{Bad}
+use Rattle.calls.specs.declared.kind.Bad.TheVariants.{Length, CutShort}
+use Rattle.calls.specs.declared.kind.Kind.{Kind}
+use Rattle.calls.specs.declared.kind.Kind.TheVariants.{PointerWrite, PointerRead, GridPlan, GridRead, GridStore, GridConvert, Transfer}
+use Rattle.calls.specs.declared.kind.Form.{Form}
 
 -- ---- buffers
 
@@ -57,22 +64,32 @@ pub over_is : (bs : List ℕ) (p : ℕ) → Over bs p → is_over bs p ≡ true
 unfolding is_over
 over_is bs p h = rw (ne_eqb p 0 h.place, le-leb _ _ h.said, lt-ltb _ _ h.many)
 
--- the end of a buffer with n elements, by whether its bytes are there
-module _ (bs : List ℕ) (p w : ℕ) {n : ℕ} {t : Bool} (e : n ≡ many bs p) (k : t ≡ leb (p + (2 + w * n)) (length bs)) where
-  pub buffer_cut : t ≡ false → 0 ≡ after_buffer bs p w
-  buffer_cut f =
-      no_buffer bs p w
-      (λ h. let m = ap (λ x. w * x) e in clash (le-leb (p + (2 + w * n)) (length bs) (omega (arith, h.whole))) (sym k ∙ f))
+-- where the n bytes of a buffer's size, or those of its length, are there or not
+module _ (bs : List ℕ) (p w : ℕ) (z : 0 < p) (l : p ≤ length bs) where
+  pub cut_length : length bs - p < 2 → (after_buffer bs p w ≡ 0) × (CutShort ≡ why (is_over bs p))
+  cut_length h = (
+    sym (no_buffer bs p w (λ s. omega (arith, s.whole))),
+    ap why (sym (false_when (is_over bs p) (λ e. let o = is_over_lem bs p e in absurd (omega (arith, o.said))))),
+  )
 
-  pub buffer_fits : t ≡ true → p + (2 + w * n) ≤ length bs
-  buffer_fits f = leb-true (p + (2 + w * n)) (length bs) (sym k ∙ f)
+  module _ {n : ℕ} (e : n ≡ many bs p) (k : 2 ≤ length bs - p) where
+    pub too_many : 1024 < n → (after_buffer bs p w ≡ 0) × (Length ≡ why (is_over bs p))
+    too_many h = (
+      sym (no_buffer bs p w (λ s. omega (arith, s.few))),
+      ap why (sym (over_is bs p (record { place = λ y. omega arith; said = omega arith; many = omega arith }))),
+    )
 
-  pub buffer_done : (p ≡ 0 → ⊥) → n ≤ 1024 → t ≡ true → p + (2 + w * n) ≡ after_buffer bs p w
-  buffer_done z l f =
-      let m = ap (λ x. w * x) e in
-      let b = buffer_fits f in
-      let s : p + (2 + w * n) ≡ p + 2 + w * many bs p = omega arith in
-      s ∙ a_buffer bs p w (record { place = z; few = omega arith; whole = omega arith })
+    pub cut_elements : n ≤ 1024 → length bs - p < 2 + w * n → (after_buffer bs p w ≡ 0) × (CutShort ≡ why (is_over bs p))
+    cut_elements m h = (
+      sym (no_buffer bs p w (λ s. let x = ap (λ y. w * y) e in omega (arith, s.whole))),
+      ap why (sym (false_when (is_over bs p) (λ y. let o = is_over_lem bs p y in absurd (omega (arith, o.many))))),
+    )
+
+    pub buffer_there : n ≤ 1024 → 2 + w * n ≤ length bs - p → (p + (2 + w * n) ≡ after_buffer bs p w) × (0 < p + (2 + w * n))
+    buffer_there m h =
+        let x = ap (λ y. w * y) e in
+        let s : p + (2 + w * n) ≡ p + 2 + w * many bs p = omega arith in
+        (s ∙ a_buffer bs p w (record { place = λ y. omega arith; few = omega arith; whole = omega arith }), omega arith)
 
 pub small : (w n : ℕ) → w ≤ 8 → n ≤ 1024 → w * n ≤ 8192
 small w n l k = le_trans (mul-le-mul_left w k) (omega arith)
@@ -141,36 +158,11 @@ pub small_form : (tag : ℕ) → Small (form_of tag)
 unfolding form_of table
 small_form tag = small_at table refl tag
 
-pub small_by : {f : Form} (tag : ℕ) → f ≡ form_of tag → Small f
-small_by tag e = subst Small (sym e) (small_form tag)
-
--- whether n bytes are there
-pub reaches_not : (len p n : ℕ) → len < p → false ≡ leb (p + n) len
-reaches_not len p n h = sym (lt-leb (p + n) len (omega arith))
-
-pub reaches_so : (len p n : ℕ) → p ≤ len → leb n (len - p) ≡ leb (p + n) len
-reaches_so len p n h =
-    same_test (leb n (len - p)) (leb (p + n) len) (λ e. le-leb (p + n) len (omega (arith, leb-true n (len - p) e))) (λ e. le-leb n (len - p) (omega (arith, leb-true (p + n) len e)))
-
 -- a tag that is none of 1 to 7
 pub no_form_past : (tag : ℕ) → (0 < tag → 7 < tag) → no_form ≡ form_of tag
 unfolding form_of table
 no_form_past zero h = refl
 no_form_past (suc tag) h = sym (get_or-eq_default table no_form {n = suc tag} (h (omega arith)))
-
--- a tag that is none of 1 to n
-abbrev NoneTo : ℕ → ℕ → Type 0
-NoneTo zero tag = Unit {0}
-NoneTo (suc n) tag = NoneTo n tag × (tag ≡ suc n → ⊥)
-
-past : (n tag : ℕ) → NoneTo n tag → 0 < tag → n < tag
-past zero tag h l = l
-past (suc n) tag (h, k) l = let p = past n tag h l in omega arith
-
-pub no_form_lem : (tag : ℕ) → NoneTo 7 tag → no_form ≡ form_of tag
-unfolding form_of table
-no_form_lem zero h = refl
-no_form_lem (suc tag) h = sym (get_or-eq_default table no_form {n = suc tag} (past 7 (suc tag) h (omega arith)))
 
 -- the end of a call, whichever way it is judged
 pub form_cases : (bs : List ℕ) (f : Form) (P : ℕ → Type 0) → P (place_of bs f f.buffers) → P 0 → P (form_end bs f)
@@ -188,22 +180,6 @@ no_buffers bs f e = rw e
 pub some_buffers : (bs : List ℕ) (f : Form) → (f.buffers ≡ 0 → ⊥) → place_of bs f f.buffers ≡ form_end bs f
 unfolding form_end
 some_buffers bs f h = rw (ne_eqb f.buffers 0 h)
-
--- a loop from place to place: the first, the next, and the last
-pub found_first : (bs : List ℕ) (f : Form) {p : ℕ} → p ≡ after_numbers bs f.numbers → Found bs f 0 (record { at = p; over = false })
-unfolding place_of some
-found_first bs f e = record { at = e; over = refl }
-
-pub found_next : (bs : List ℕ) (f : Form) (i : ℕ) {p q : ℕ} {t u : Bool} → Found bs f i (record { at = p; over = t }) → u ≡ is_over bs p → q ≡ after_buffer bs p (get_or f.widths i 0)
-    → Found bs f (i + 1) (record { at = q; over = u || t })
-unfolding place_of some
-found_next bs f i h e g = record {
-  at = rw add-one (g ∙ ap (λ x. after_buffer bs x (get_or f.widths i 0)) h.at);
-  over = rw add-one (ap₂ ◌||◌ (e ∙ ap (is_over bs) h.at) h.over);
-}
-
-pub end_done : (bs : List ℕ) (f : Form) (tag p : ℕ) → f ≡ form_of tag → (f.buffers ≡ 0 → ⊥) → p ≡ place bs tag f.buffers → p ≡ form_end bs (form_of tag)
-end_done bs f tag p e h k = k ∙ ap (λ g. place_of bs g f.buffers) (sym e) ∙ some_buffers bs f h ∙ ap (form_end bs) e
 
 -- where a call does not end at 0, all its numbers and buffers are there
 module _ (bs : List ℕ) (f : Form) where
@@ -233,23 +209,100 @@ stands_at bs tag i h l = buffers_stand bs (form_of tag) (form_of tag).buffers i 
 pub number_stands : (bs : List ℕ) (tag i : ℕ) → Whole bs tag → i < (form_of tag).numbers → 1 + 8 * i + 8 ≤ length bs
 number_stands bs tag i h l = omega (arith, first_numbers bs (form_of tag) (form_of tag).buffers (whole_place bs (form_of tag) h))
 
--- a buffer whose elements have bytes is one of the call's, and is there whole
-pub held_index : {bs : List ℕ} {tag i w : ℕ} → Held bs tag i (suc w) → i < (form_of tag).buffers
-held_index {bs} {tag} {i} h = elim (dec_lt i (form_of tag).buffers) [ yes l ↦ l | no l ↦ absurd (omega (arith, h.wide, (small_form tag).past i (omega arith))) ]
+-- no place is past the end
+after_within : (bs : List ℕ) (p w : ℕ) → after_buffer bs p w ≤ length bs
+after_within bs p w = after_cases bs p w (λ x. x ≤ length bs) (λ h. h.whole) (omega arith)
 
-pub held_small : {bs : List ℕ} {tag i w : ℕ} → Held bs tag i (suc w) → i ≤ 5
+pub place_within : (bs : List ℕ) (f : Form) (i : ℕ) → place_of bs f i ≤ length bs
+unfolding place_of
+place_within bs f zero = numbers_cases bs f.numbers (λ x. x ≤ length bs) (λ h. h) (omega arith)
+place_within bs f (suc i) = after_within bs (place_of bs f i) (get_or f.widths i 0)
+
+-- ---- from place to place
+
+module _ (bs : List ℕ) (f : Form) where
+  -- behind a place that is not there none is
+  none_after : (j i : ℕ) → j ≤ i → place_of bs f j ≡ 0 → place_of bs f i ≡ 0
+  none_after j i l z =
+      elim (ℕ_discrete (place_of bs f i) 0) [
+        | yes e ↦ e
+        | no n ↦ elim (ℕ_discrete i j) [ yes e ↦ absurd (n (ap (place_of bs f) e ∙ z)) | no m ↦ absurd ((buffers_stand bs f i j (omega arith) n).place z) ]
+      ]
+
+  -- so a buffer has too many elements where the first that is not there has
+  over_at : (j i : ℕ) → j < i → (place_of bs f j ≡ 0 → ⊥) → place_of bs f (suc j) ≡ 0
+      → is_over bs (place_of bs f j) ≡ some i (λ k. is_over bs (place_of bs f k))
+  over_at j i l n z =
+      same_test (is_over bs (place_of bs f j)) (some i (λ k. is_over bs (place_of bs f k))) (some_in i (λ k. is_over bs (place_of bs f k)) j l)
+      (λ e.
+      let (k, m, o) = some_out i (λ k. is_over bs (place_of bs f k)) e in
+      let over = is_over_lem bs (place_of bs f k) o in
+      elim (dec_lt k j) [
+        | yes y ↦ let s = buffers_stand bs f j k y n in absurd (omega (arith, s.few, over.many))
+        | no x ↦ elim (dec_lt j k) [
+          | yes y ↦ absurd (over.place (none_after (suc j) k (omega arith) z))
+          | no y ↦ let same : k ≡ j = omega arith in subst (λ q. is_over bs (place_of bs f q) ≡ true) same o
+        ]
+      ])
+
+  -- the numbers are not there, or they are
+  pub no_numbers : (i : ℕ) → length bs < 1 + 8 * f.numbers → (place_of bs f i ≡ 0) × (CutShort ≡ why (some i (λ k. is_over bs (place_of bs f k))))
+  unfolding place_of after_numbers
+  no_numbers i h =
+      let z : place_of bs f 0 ≡ 0 = rw (lt-leb (1 + 8 * f.numbers) (length bs) h) in (
+        none_after 0 i (omega arith) z,
+        ap why
+            (sym (false_when (some i (λ k. is_over bs (place_of bs f k)))
+            (λ e. let (k, m, o) = some_out i (λ k. is_over bs (place_of bs f k)) e in (is_over_lem bs (place_of bs f k) o).place (none_after 0 k (omega arith) z)))),
+      )
+
+  pub place_first : 1 + 8 * f.numbers ≤ length bs → 1 + 8 * f.numbers ≡ place_of bs f 0
+  unfolding place_of after_numbers
+  place_first h = rw (le-leb (1 + 8 * f.numbers) (length bs) h)
+
+  -- a buffer is there, or it is not
+  pub place_next : (j : ℕ) {p q w : ℕ} → p ≡ place_of bs f j → w ≡ get_or f.widths j 0 → q ≡ after_buffer bs p w → q ≡ place_of bs f (j + 1)
+  unfolding place_of
+  place_next j e g h = h ∙ ap₂ (after_buffer bs) e g ∙ ap (place_of bs f) (sym (add-one j))
+
+  pub no_place : (j i : ℕ) {p w : ℕ} {e : Bad} → j < i → 0 < p → p ≡ place_of bs f j → w ≡ get_or f.widths j 0 → (after_buffer bs p w ≡ 0) × (e ≡ why (is_over bs p))
+      → (place_of bs f i ≡ 0) × (e ≡ why (some i (λ k. is_over bs (place_of bs f k))))
+  unfolding place_of
+  no_place j i l z s g (h, y) =
+      let none : place_of bs f (suc j) ≡ 0 = ap₂ (after_buffer bs) (sym s) (sym g) ∙ h in
+      (none_after (suc j) i l none, y ∙ ap (λ x. why (is_over bs x)) s ∙ ap why (over_at j i l (λ x. omega arith) none))
+
+-- ---- kinds
+
+-- every kind has a form
+pub kind_form : (k : Kind) → has_none (form_of (tag_of k)) ≡ false
+unfolding form_of table
+kind_form = elim [ PointerWrite ↦ refl | PointerRead ↦ refl | GridPlan ↦ refl | GridRead ↦ refl | GridStore ↦ refl | GridConvert ↦ refl | Transfer ↦ refl ]
+
+pub kind_end : (bs : List ℕ) (k : Kind) → place_of bs (form_of (tag_of k)) (form_of (tag_of k)).buffers ≡ form_end bs (form_of (tag_of k))
+kind_end bs k = some_buffers bs (form_of (tag_of k)) (eqb-false (form_of (tag_of k)).buffers 0 (kind_form k))
+
+-- a call with this tag is there whole, and its buffer i has elements of w bytes
+pub record Held (bs : List ℕ) (tag i w : ℕ) : Type 0 where
+  pub wide : width tag i ≡ w
+  pub some : 0 < w
+  pub whole : Whole bs tag
+
+-- so it is one of the call's buffers, and is there whole
+pub held_index : {bs : List ℕ} {tag i w : ℕ} → Held bs tag i w → i < (form_of tag).buffers
+held_index {bs} {tag} {i} h = elim (dec_lt i (form_of tag).buffers) [ yes l ↦ l | no l ↦ absurd (omega (arith, h.wide, h.some, (small_form tag).past i (omega arith))) ]
+
+pub held_small : {bs : List ℕ} {tag i w : ℕ} → Held bs tag i w → i ≤ 5
 held_small {bs} {tag} h = omega (arith, held_index h, (small_form tag).buffers)
 
-pub held_stands : {bs : List ℕ} {tag i w p : ℕ} → Held bs tag i (suc w) → p ≡ place bs tag i → Stands bs p (suc w)
+pub held_stands : {bs : List ℕ} {tag i w p : ℕ} → Held bs tag i w → p ≡ place bs tag i → Stands bs p w
 held_stands {bs} {tag} {i} {w} h e =
-    subst (λ x. Stands bs x (suc w)) (sym e) (subst (Stands bs (place bs tag i)) h.wide (stands_at bs tag i h.whole (held_index h)))
+    subst (λ x. Stands bs x w) (sym e) (subst (Stands bs (place bs tag i)) h.wide (stands_at bs tag i h.whole (held_index h)))
 
--- buffer i of a call whose tag is t
-pub held : {bs : List ℕ} {tag : ℕ} (t i : ℕ) → Tagged bs tag t → Held bs tag i (width t i)
-held t i h = record { wide = ap (λ x. width x i) h.is; whole = h.whole }
+-- a buffer that has elements, of a call that is there whole
+pub held : {bs : List ℕ} (kind : Kind) {i w n : ℕ} → n ≡ form_end bs (form_of (tag_of kind)) → 0 < n → width (tag_of kind) i ≡ w → 0 < w → Held bs (tag_of kind) i w
+held kind e l h p = record { wide = h; some = p; whole = λ z. omega arith }
 
-pub found_last : (bs : List ℕ) {f g : Form} {i j : ℕ} {r : Reach} → f ≡ g → j ≡ i → Found bs f j r → Found bs g i r
-found_last bs {r = r} e k h = transport (λ x. Found bs (e x) (k x) r) h
-
-pub over_done : (bs : List ℕ) (f : Form) (tag : ℕ) {t : Bool} → f ≡ form_of tag → t ≡ some f.buffers (λ i. is_over bs (place bs tag i)) → t ≡ has_over bs (form_of tag)
-over_done bs f tag e h = h ∙ ap (λ g. some g.buffers (λ i. is_over bs (place bs tag i))) e
+pub found_ok : {bs : List ℕ} {tag i w : ℕ} (r : Result ℕ Bad) → Held bs tag i w → Found bs (form_of tag) i r → IsOk r
+found_ok (Ok p) h f = search rules
+found_ok (Err e) h f = absurd ((held_stands h refl).place f.0)

@@ -1,6 +1,6 @@
 -- Laws of the whole run: the bytes that came are those of the calls that were made, and what is left of them. Assumes nothing.
 use mathlib.Core.Path.{◌≡◌, refl, sym, ap, ap₂, subst, transport, ◌∙◌}
-use mathlib.Core.Bool.{Bool, false, not, ◌&&◌}
+use mathlib.Core.Bool.{Bool}
 use mathlib.Core.List.{List, [], ◌∷◌, ◌++◌, append-nil}
 use Prim.Native.Nat.{ℕ, zero, suc, ◌+◌, ◌-◌, ◌≤◌}
 use native.Mathlib.Numerals.{add-one}
@@ -8,20 +8,13 @@ use native.Mathlib.Omega.{arith}
 use native.Mathlib.Decide.{ℕ_discrete}
 use lib.ListN.{length, take, drop, length-append, length-drop, take-append-drop}
 use lib.Seq.{drop-append-le, drop-drop, take-take, take-nil}
-use borrow.Author.Tests.{ne_eqb}
-use Rattle.calls.specs.declared.State.{State}
-use Rattle.calls.specs.Format.{table, form_of, is_bad, call_end, is_cut_short}
+use Rattle.calls.specs.Stream.{State}
+use Rattle.calls.specs.Format.{call_end}
 use Rattle.calls.specs.Stream.{left, Fetched, Turned, paused, Turn, fetched, done, written, called, Turns, none, next, start, came_in, came, CallsTo, no_call, one_more}
 use Rattle.calls.specs.Claims.{CallsComeFirst}
-use Rattle.calls.proofs.FormatLaws.{no_buffers}
-use Rattle.calls.proofs.StreamLaws.{call_more, call_within}
+use Rattle.calls.proofs.StreamLaws.{call_more, call_within, whole_not_cut}
 
 -- ---- calls, with bytes that follow
-
-whole_not_cut : (bs : List ℕ) → (call_end bs ≡ 0 → ⊥) → is_cut_short bs ≡ false
-unfolding is_cut_short form_of table
-whole_not_cut [] h = absurd (h (sym (no_buffers [] (form_of 0) refl)))
-whole_not_cut (t ∷ bs) h = ap (λ x. x && not (is_bad (t ∷ bs) (form_of t))) (ne_eqb (call_end (t ∷ bs)) 0 h)
 
 calls_more : {bs : List ℕ} {n p : ℕ} (rest : List ℕ) → CallsTo bs n p → CallsTo (bs ++ rest) n p
 calls_more rest no_call = no_call

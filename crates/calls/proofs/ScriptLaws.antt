@@ -1,7 +1,6 @@
 -- Laws of a transfer by a script: what a step leaves, and that no second end is one. Assumes nothing.
 use mathlib.Core.Path.{◌≡◌, refl, sym, ap, subst, ◌∙◌}
 use mathlib.Core.List.{List, [], ◌∷◌, ◌++◌}
-use mathlib.Core.Logic.{◌≢◌}
 use Prim.Native.Nat.{ℕ, suc, ◌+◌, ◌-◌, ◌≤◌, ◌<◌, min}
 use native.Mathlib.Numerals.{add-one}
 use native.Mathlib.Omega.{arith}
@@ -38,29 +37,22 @@ lump_part bytes used b c l e =
 next_length : (bytes : List ℕ) (used b : ℕ) → length (next bytes used b) ≡ min b (length bytes - used)
 next_length bytes used b = length-take b (drop used bytes) ∙ ap (min b) (length-drop used bytes)
 
-pub lump_step : {m n k used b x : ℕ} {bytes out : List ℕ} {t u : Transfer} (c : ℕ) → b < 256 → b ≢ 254 → b ≢ 255 → used ≤ length bytes → c ≡ min b (length bytes - used)
+pub lump_step : {m n k used b x : ℕ} {bytes out : List ℕ} {t u : Transfer} (c : ℕ) → b ≤ 253 → used ≤ length bytes → c ≡ min b (length bytes - used)
     → Lump t (take (used + c - used) (drop used bytes)) x u → Stepped m n k bytes b t used out x u (used + c) out
-lump_step {m} {n} {k} {used} {b} {x} {bytes} {out} {t} {u} c p q r l e h =
+lump_step {m} {n} {k} {used} {b} {x} {bytes} {out} {t} {u} c p l e h =
     subst (λ more. Stepped m n k bytes b t used out x u (used + more) out) (next_length bytes used b ∙ sym e)
-    (lump (omega arith) (subst (λ bs. Lump t bs x u) (lump_part bytes used b c l e) h))
+    (lump p (subst (λ bs. Lump t bs x u) (lump_part bytes used b c l e) h))
 
 step_length : {bytes out after : List ℕ} {m n k b used used' x : ℕ} {t u : Transfer} → Stepped m n k bytes b t used out x u used' after → length after ≡ length out
 step_length (lump _ _) = refl
 step_length (start _ _) = refl
 step_length (finish _ _ l) = l
 
--- no more bytes are used than there are
-step_within : {bytes out after : List ℕ} {m n k b used used' x : ℕ} {t u : Transfer} → Stepped m n k bytes b t used out x u used' after → used ≤ length bytes → used' ≤ length bytes
-step_within {bytes = bytes} {b = b} {used = used} (lump _ l) h = omega (arith, next_length bytes used b)
-step_within (start _ _) h = h
-step_within (finish _ _ _) h = h
-
 -- ---- a start, and steps one after the other
 
 -- a loop that goes through the script has made the first i steps; their numbers are at the front of `steps`
 pub record Running (m n k : ℕ) (bytes script before out steps : List ℕ) (t : Transfer) (used i : ℕ) : Type 0 where
   pub within : i ≤ length script
-  pub left : used ≤ length bytes
   pub long : length out ≡ length before
   pub room : length steps ≡ length script + 1
   pub after : After m n k bytes script before i t used out (take (i + 1) steps)
@@ -70,7 +62,6 @@ module _ {m n k : ℕ} {bytes script before : List ℕ} where
       → Running m n k bytes script before before (set steps 0 x) u 0 0
   run_start {x} {u} steps l h = record {
     within = omega arith;
-    left = omega arith;
     long = refl;
     room = length-set steps 0 x ∙ l;
     after = subst (After m n k bytes script before 0 u 0 before) (sym (take-suc-set steps 0 x (omega arith))) (started h);
@@ -82,7 +73,6 @@ module _ {m n k : ℕ} {bytes script before : List ℕ} where
       let here : take (i + 1 + 1) (set steps (i + 1) x) ≡ take (i + 1) steps ++ (x ∷ []) = ap (λ j. take j (set steps (i + 1) x)) (add-one (i + 1)) ∙ take-suc-set steps (i + 1) x (omega (arith, h.room)) in
       record {
         within = omega arith;
-        left = step_within d h.left;
         long = step_length d ∙ h.long;
         room = length-set steps (i + 1) x ∙ h.room;
         after = rw here (subst (λ j. After m n k bytes script before j u used' after (take (i + 1) steps ++ (x ∷ []))) (sym (add-one i)) (stepped h.after l d));

@@ -7,7 +7,7 @@ use Rattle.calls.specs.Bad.{its_tag, cut_short, reason}
 use Rattle.calls.specs.Scripts.{Scripted}
 use Rattle.calls.specs.Calls.{LineOf, Printed}
 use Rattle.calls.specs.Stream.{left, Turns, start, came, CallsTo}
-use Rattle.calls.specs.declared.State.{State}
+use Rattle.calls.specs.Stream.{State}
 
 -- ---- where calls end
 

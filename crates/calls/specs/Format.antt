@@ -2,8 +2,7 @@
 -- buffer can start or end, says that there is no call. Assumes nothing.
 use Rattle.std.specs.Prelude.{◌≡◌, Bool, true, cond, not, ◌&&◌, ◌||◌, List, [], ◌∷◌, ℕ, zero, suc, ◌+◌, ◌*◌, eqb, leb, ltb, length, get_or}
 use Rattle.bits.specs.Bits.{some, list, number_at}
-use Rattle.calls.specs.declared.input.Form.{Form}
-use Rattle.calls.specs.declared.input.Reach.{Reach}
+use Rattle.calls.specs.declared.kind.Form.{Form}
 
 -- number i of a call, from 0 on: they follow the tag, eight bytes each
 abbrev pub call_number : List ℕ → ℕ → ℕ
@@ -86,24 +85,9 @@ has_over bs f = some f.buffers (λ i. is_over bs (place_of bs f i))
 unfoldable pub is_bad : List ℕ → Form → Bool
 is_bad bs f = has_none f || has_over bs f
 
--- a place was found, and whether a buffer before it has too many elements
-pub record Found (bs : List ℕ) (f : Form) (i : ℕ) (r : Reach) : Type 0 where
-  pub at : r.at ≡ place_of bs f i
-  pub over : r.over ≡ some i (λ j. is_over bs (place_of bs f j))
-
 -- a call with this tag is there whole
 abbrev pub Whole : List ℕ → ℕ → Type 0
 Whole bs tag = form_end bs (form_of tag) ≡ 0 → ⊥
-
--- and its tag is t
-pub record Tagged (bs : List ℕ) (tag t : ℕ) : Type 0 where
-  pub is : tag ≡ t
-  pub whole : Whole bs tag
-
--- and its buffer i has elements of w bytes
-pub record Held (bs : List ℕ) (tag i w : ℕ) : Type 0 where
-  pub wide : width tag i ≡ w
-  pub whole : Whole bs tag
 
 -- the elements of buffer i of a call
 unfoldable pub buffer_of : List ℕ → ℕ → ℕ → List ℕ

@@ -1,79 +1,94 @@
 // A transfer by a script, a byte a step: docs/CALLS.md says which calls it makes.
-ghost use Rattle.std.specs.Prelude.{◌≡◌, ◌+◌, ◌≤◌, min, length};
-ghost use Rattle.calls.specs.Scripts.{Stepped, Scripted};
+ghost use Rattle.std.specs.Prelude.{◌≡◌, ◌+◌, ◌≤◌, length};
+ghost use Rattle.calls.specs.Scripts.{Scripted};
+ghost use Rattle.calls.specs.Steps.{IsStep};
 
-use crate::input::Sizes;
+use crate::format::GridNumbers;
 use fragment_promises::Transfer;
 use grid_promises::ReadAnswer;
 
-// A script's byte for a new start, and the one for a finish. A lower one is the size of a lump.
-const START: u8 = 254;
+// A new start with the same numbers, a finish, or a lump of at most so many bytes.
+#[derive(Clone, Copy)]
+enum Step {
+    Start,
+    Finish,
+    Lump(u8),
+}
 
-const FINISH: u8 = 255;
+impl From<u8> for Step {
+    ghost from_gives = { IsStep };
 
-// What a step leaves: the number that it answers, how many of the bytes are used, and the transfer.
+    fn from(byte: u8) -> Step {
+        match byte {
+            254 => Step::Start,
+            255 => Step::Finish,
+            size => Step::Lump(size),
+        }
+    }
+}
+
+// A transfer on its way: what it holds, and how many of its bytes are used.
 #[derive(Drop)]
-pub struct Left {
-    pub number: usize,
-    pub used: usize,
-    pub transfer: Transfer,
+struct Sending<'a> {
+    numbers: GridNumbers,
+    bytes: &'a [u8],
+    used: usize,
+    transfer: Transfer,
+    ghost within: { used ≤ length bytes.now },
 }
 
-// How many bytes a lump has: as many as are wanted, or all that are left where they are fewer.
-fn lump_size(wanted: u8, left: usize) -> usize
-    ensures { result ≡ min wanted left }
-{
-    let n = wanted as usize;
-    if n < left { n } else { left }
-}
+impl<'a> Sending<'a> {
+    ghost use Rattle.calls.specs.Sending.{Steps};
 
-fn step(z: Sizes, byte: u8, t: Transfer, bytes: &[u8], used: usize, out: &mut [u64]) -> Left
-    requires { used ≤ length bytes.now }
-    ensures { Stepped z.rows z.columns z.k bytes.now byte t used out.old result.number result.transfer result.used out.new }
-{
-    if byte == START {
-        let s = fragments::start(z.rows, z.columns, z.k);
-        let begun = s.transfer;
-        return Left {
-            number: s.number,
-            used,
-            transfer: begun,
-        };
-    }
-    if byte == FINISH {
-        let a = fragments::finish(t, out);
-        return Left {
-            number: a.number,
-            used,
-            transfer: t,
-        };
-    }
-    let end = used + lump_size(byte, bytes.len() - used);
-    let s = fragments::lump(t, &bytes[used..end]);
-    let next = s.transfer;
-    Left {
-        number: s.number,
-        used: end,
-        transfer: next,
+    // Makes the step of a byte, and answers its number.
+    fn step(&mut self, byte: u8, out: &mut [u64]) -> usize
+        ensures { Steps self.old byte out.old result self.new out.new }
+    {
+        match Step::from(byte) {
+            Step::Start => {
+                let GridNumbers { rows, columns, k } = self.numbers;
+                let s = fragments::start(rows, columns, k);
+                self.transfer = s.transfer;
+                s.number
+            }
+            Step::Finish => {
+                let a = fragments::finish(self.transfer, out);
+                a.number
+            }
+            Step::Lump(size) => {
+                let n = usize::from(size).min(self.bytes.len() - self.used);
+                let end = self.used + n;
+                let s = fragments::lump(self.transfer, &self.bytes[self.used..end]);
+                self.transfer = s.transfer;
+                self.used = end;
+                s.number
+            }
+        }
     }
 }
 
 // Starts, goes through the script and finishes. The numbers of all steps before the last finish are put into `steps`.
-pub fn run(z: Sizes, bytes: &[u8], script: &[u8], out: &mut [u64], steps: &mut [u8]) -> ReadAnswer
+pub fn run(
+    numbers: GridNumbers,
+    bytes: &[u8],
+    script: &[u8],
+    out: &mut [u64],
+    steps: &mut [u8],
+) -> ReadAnswer
     requires { length steps.old ≡ length script.now + 1 }
-    ensures { Scripted z.rows z.columns z.k bytes.now script.now out.old result out.new steps.new }
+    ensures { Scripted numbers.rows numbers.columns numbers.k bytes.now script.now out.old result out.new steps.new }
 {
-    let s = fragments::start(z.rows, z.columns, z.k);
+    let s = fragments::start(numbers.rows, numbers.columns, numbers.k);
     steps[0] = s.number as u8;
-    let mut t = s.transfer;
-    let mut used = 0;
-    let mut i = 0;
-    while i < script.len() {
-        let left = step(z, script[i], t, bytes, used, out);
-        i += 1;
-        steps[i] = left.number as u8;
-        t = left.transfer;
-        used = left.used;
+    let mut sending = Sending {
+        numbers,
+        bytes,
+        used: 0,
+        transfer: s.transfer,
+    };
+    for (i, byte) in script.iter().enumerate() {
+        let number = sending.step(*byte, out);
+        steps[i + 1] = number as u8;
     }
-    fragments::finish(t, out)
+    fragments::finish(sending.transfer, out)
 }

@@ -94,7 +94,6 @@ pub extern "C" fn ernavluq_grid_convert_r2(
     grid::convert(rows, columns, k, to, counters, out)
 }
 
-// A transfer is lent, and so are its fields to the call behind: nothing of it is copied.
 #[unsafe(no_mangle)]
 pub extern "C" fn ernavluq_transfer_start_r2(
     transfer: &mut fragment_promises::Transfer,
@@ -104,16 +103,7 @@ pub extern "C" fn ernavluq_transfer_start_r2(
 ) -> usize
     ensures { Start rows columns k result transfer.new }
 {
-    fragments::start_at(
-        &mut transfer.rows,
-        &mut transfer.columns,
-        &mut transfer.k,
-        &mut transfer.taken,
-        &mut transfer.bytes,
-        rows,
-        columns,
-        k,
-    )
+    fragments::start_at(transfer, rows, columns, k)
 }
 
 #[unsafe(no_mangle)]
@@ -123,17 +113,7 @@ pub extern "C" fn ernavluq_transfer_lump_r2(
 ) -> usize
     ensures { Lump transfer.old bytes.now result transfer.new }
 {
-    let rows = transfer.rows;
-    let columns = transfer.columns;
-    let k = transfer.k;
-    fragments::lump_at(
-        &mut transfer.taken,
-        &mut transfer.bytes,
-        rows,
-        columns,
-        k,
-        bytes,
-    )
+    fragments::lump_at(transfer, bytes)
 }
 
 #[unsafe(no_mangle)]
@@ -143,11 +123,7 @@ pub extern "C" fn ernavluq_transfer_finish_r2(
 ) -> grid_promises::ReadAnswer
     ensures { Finishes transfer.now out.old result out.new }
 {
-    let rows = transfer.rows;
-    let columns = transfer.columns;
-    let k = transfer.k;
-    let taken = transfer.taken;
-    fragments::finish_at(&transfer.bytes, rows, columns, k, taken, out)
+    fragments::finish_at(transfer, out)
 }
 
 #[unsafe(no_mangle)]
@@ -156,9 +132,5 @@ pub extern "C" fn ernavluq_transfer_missing_r2(
 ) -> fragment_promises::MissingAnswer
     ensures { Misses transfer.now result }
 {
-    let rows = transfer.rows;
-    let columns = transfer.columns;
-    let k = transfer.k;
-    let taken = transfer.taken;
-    fragments::missing(rows, columns, k, taken)
+    fragments::missing(transfer.rows, transfer.columns, transfer.k, transfer.taken)
 }

@@ -5,7 +5,7 @@
 pub const LONGEST: usize = 560;
 
 // A block on its way: what its start was told, how many of its bytes were taken, and these bytes first. More bytes taken than the block has says that a lump was
-// refused. So every value of it has a meaning, also one that no call made.
+// refused: C lends this record as it is, and has no enum for it. So every value of it has a meaning, also one that no call made.
 #[repr(C)]
 #[derive(Clone, Copy)]
 pub struct Transfer {
@@ -16,7 +16,7 @@ pub struct Transfer {
     pub bytes: [u8; LONGEST],
 }
 
-// How many bytes of its block a transfer still lacks: 0 or the number of the refusal, and the bytes.
+// How many bytes of its block a transfer still lacks: 0 or the number of the refusal, and the bytes. C is answered it.
 #[repr(C)]
 #[derive(Drop)]
 pub struct MissingAnswer {

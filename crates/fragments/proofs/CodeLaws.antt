@@ -1,27 +1,26 @@
 -- What the steps of the code come to: lengths, the bytes of a lump, and the words of a block. Assumes nothing.
-use Prim.Native.Nat.{ℕ, ◌+◌, ◌*◌, ◌<◌, ◌≤◌}
+use Prim.Native.Nat.{ℕ, ◌+◌, ◌-◌, ◌*◌, ◌<◌, ◌≤◌}
 use mathlib.Core.Path.{◌≡◌, sym, ap, subst, ◌∙◌}
 use mathlib.Core.Bool.{cond}
-use mathlib.Core.List.{List, ◌++◌}
-use native.Mathlib.Numerals.{add-one}
+use mathlib.Core.List.{List, ◌++◌, append_assoc}
 use native.Mathlib.Omega.{arith}
 use borrow.Author.Tests.{le-leb}
-use lib.Dec.{leb}
-use lib.ListN.{length, get_or, take, drop, set}
-use lib.Seq.{paste, paste-zero, paste-suc, take-length, take-take}
+use lib.Dec.{leb, eqb}
+use lib.ListN.{length-drop, length, take, drop, set}
+use borrow.Rule.Slice.PartMut.{put_mid, mid_of}
+use lib.Seq.{length-take-le, drop-drop, take-take}
 use Rattle.bits.specs.Bits.{number, number_at}
 use Rattle.bits.proofs.BoundLaws.{list_more}
 use Rattle.rdis.specs.Packing.{width, bytes_for}
+use Rattle.words.proofs.CopyLaws.{as_long_lem}
 use Rattle.grid_promises.specs.Refusals.{InRange}
 use Rattle.grid_promises.specs.Promises.{Read}
 use Rattle.grid_promises.specs.declared.ReadAnswer.{ReadAnswer}
 use Rattle.fragment_promises.specs.declared.Transfer.{Transfer}
-use Rattle.fragment_promises.specs.Transfers.{counter_bytes, size, transfer, held, standing_of, counters_of, cells_of, words_from}
+use Rattle.fragment_promises.specs.Transfers.{counter_bytes, size, transfer, standing_of, size_of, counters_of, cells_of, words_from}
 use Rattle.fragment_promises.specs.Promises.{Lump}
 use Rattle.fragment_promises.proofs.StandingLaws.{size_most, well_good}
-use Rattle.fragment_promises.proofs.StepLaws.{lump_stays, lump_taken, lump_refused}
-use Rattle.fragments.specs.declared.Judged.{Judged}
-use Rattle.fragments.specs.Steps.{Judges, stays, fits, refused}
+use Rattle.fragment_promises.proofs.StepLaws.{lump_stays, lump_taken}
 
 -- ---- lengths
 
@@ -32,42 +31,33 @@ pub whole_length : (m n k c : ℕ) (bs : List ℕ) → c ≡ counter_bytes m n k
 unfolding size
 whole_length m n k c bs e f = omega arith
 
--- ---- a lump that was judged
+-- ---- a lump
 
-module _ (t : Transfer) (j : Judged) (bs : List ℕ) where
-  -- what is put are bytes of the lump, and there is room for them
-  pub judged_room : Judges t.rows t.columns t.k t.taken (length bs) j → (j.more ≤ length bs) × ((i : ℕ) → i < j.more → t.taken + i < 560)
-  judged_room (stays _ e) = let z : j.more ≡ 0 = ap (λ x. x.more) e in (omega arith, λ i l. absurd (omega arith))
-  judged_room (refused _ _ e) = let z : j.more ≡ 0 = ap (λ x. x.more) e in (omega arith, λ i l. absurd (omega arith))
-  judged_room (fits z l e) = let f : j.more ≡ length bs = ap (λ x. x.more) e in (omega arith, λ i h. omega (arith, size_most _ _ _ (well_good t z)))
+-- what the record has noted, it notes again
+pub lump_noted : (t : Transfer) (bs : List ℕ) (x : ℕ) → length t.bytes ≡ 560 → x ≡ standing_of t → 0 < x → Lump t bs x t
+lump_noted t bs x room e l = rw e (lump_stays t bs room (rw (← e) l))
 
-  -- the record with its count, and its bytes put
-  abbrev pub judged : Transfer
-  judged = transfer t.rows t.columns t.k j.taken (paste t.bytes t.taken bs j.more)
+-- the bytes of a lump for which there is room end within the record
+pub lump_end : (t : Transfer) (room n : ℕ) → 0 ≡ standing_of t → t.taken + room ≡ size_of t → n ≤ room → t.taken + n ≤ 560
+lump_end t room n z e l = omega (arith, e, size_most t.rows t.columns t.k (well_good t (sym z)))
 
--- then the lump ends as it should
-pub judged_lump : (t : Transfer) (j : Judged) (bs : List ℕ) → length t.bytes ≡ 560 → Judges t.rows t.columns t.k t.taken (length bs) j
-    → Lump t bs j.number (judged t j bs)
-judged_lump t j bs room d = go d
-  where
-    ends : Judged → Type 0
-    ends j = Lump t bs j.number (judged t j bs)
+-- and are put behind those that it has
+pub lump_put : (t : Transfer) (bs put : List ℕ) (room k : ℕ) → length t.bytes ≡ 560 → 0 ≡ standing_of t → t.taken + room ≡ size_of t → length bs ≤ room → put ≡ bs → k ≡ length bs
+    → Lump t bs 0 (transfer t.rows t.columns t.k (t.taken + length bs) (put_mid t.taken k t.bytes put))
+lump_put t bs put room k long z e l p q =
+    let front : (take t.taken t.bytes ++ bs) ++ drop (t.taken + length bs) t.bytes ≡ take t.taken t.bytes ++ (bs ++ drop (length bs) (drop t.taken t.bytes)) =
+    append_assoc (take t.taken t.bytes) bs (drop (t.taken + length bs) t.bytes) ∙ ap (λ x. take t.taken t.bytes ++ (bs ++ x)) (sym (drop-drop (length bs) t.taken t.bytes)) in
+    rw (p, q, ← front) (lump_taken t bs long (sym z) (omega (arith, e)))
 
-    put : (x taken more : ℕ) (d : List ℕ) → d ≡ paste t.bytes t.taken bs more → Lump t bs x (transfer t.rows t.columns t.k taken d)
-        → Lump t bs x (transfer t.rows t.columns t.k taken (paste t.bytes t.taken bs more))
-    put x taken more d e = subst (λ d. Lump t bs x (transfer t.rows t.columns t.k taken d)) e
-
-    all : held t ++ bs ++ drop (t.taken + length bs) t.bytes ≡ paste t.bytes t.taken bs (length bs)
-    all = ap (λ b. held t ++ b ++ drop (t.taken + length bs) t.bytes) (sym (take-length bs))
-
-    go : Judges t.rows t.columns t.k t.taken (length bs) j → ends j
-    go (stays l e) = subst ends (sym e) (put (standing_of t) t.taken 0 _ (paste-zero t.bytes t.taken bs) (lump_stays t bs room l))
-    go (fits z l e) = subst ends (sym e) (put 0 (t.taken + length bs) (length bs) _ all (lump_taken t bs room z l))
-    go (refused z l e) = subst ends (sym e) (put 9 561 0 _ (paste-zero t.bytes t.taken bs) (lump_refused t bs room z l))
-
--- one byte more is put
-pub put_more : (d bs next : List ℕ) (p i : ℕ) → p + i < length d → i < length bs → next ≡ paste d p bs i → set next (p + i) (get_or bs i 0) ≡ paste d p bs (i + 1)
-put_more d bs next p i l q e = ap (λ x. set x (p + i) (get_or bs i 0)) e ∙ paste-suc d p bs i 0 l q ∙ ap (paste d p bs) (sym (add-one i))
+-- where they were copied into as many
+pub lump_copied : (t : Transfer) (bs put : List ℕ) (room k : ℕ) → length t.bytes ≡ 560 → 0 ≡ standing_of t → t.taken + room ≡ size_of t → length bs ≤ room
+    → put ≡ cond (eqb (length (mid_of t.taken k t.bytes)) (length bs)) bs (mid_of t.taken k t.bytes) → k ≡ length bs
+    → Lump t bs 0 (transfer t.rows t.columns t.k (t.taken + length bs) (put_mid t.taken k t.bytes put))
+lump_copied t bs put room k long z e l p q =
+    let most : t.taken + length bs ≤ 560 = lump_end t room (length bs) z e l in
+    let left : length (drop t.taken t.bytes) ≡ length t.bytes - t.taken = length-drop t.taken t.bytes in
+    let many : length (mid_of t.taken k t.bytes) ≡ length bs = length-take-le k (drop t.taken t.bytes) (omega (arith, left, most)) ∙ q in
+    lump_put t bs put room k long z e l (p ∙ sym (as_long_lem _ _ bs (mid_of t.taken k t.bytes) many)) q
 
 -- ---- the words of a block
 

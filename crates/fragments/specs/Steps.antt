@@ -1,10 +1,9 @@
--- How a lump is judged. Assumes nothing.
-use Rattle.std.specs.Prelude.{ℕ, ◌+◌, ◌<◌, ◌≤◌, ◌≡◌}
-use Rattle.fragment_promises.specs.Transfers.{size, standing}
-use Rattle.fragments.specs.declared.Judged.{Judged}
+-- What the private steps of a finish say. Assumes nothing.
+use Rattle.std.specs.Prelude.{ℕ, List}
+use Rattle.grid_promises.specs.Promises.{Read}
+use Rattle.grid_promises.specs.declared.ReadAnswer.{ReadAnswer}
+use Rattle.fragment_promises.specs.Transfers.{cells_of, counters_of}
 
--- how a lump of `more` bytes goes: it is refused as lumps before it were, or taken, or refused
-pub data Judges (m n k taken more : ℕ) (j : Judged) : Type 0 where
-  stays : 0 < standing m n k taken → j ≡ record { number = standing m n k taken; taken = taken; more = 0 } → Judges m n k taken more j
-  fits : standing m n k taken ≡ 0 → taken + more ≤ size m n k → j ≡ record { number = 0; taken = taken + more; more = more } → Judges m n k taken more j
-  refused : standing m n k taken ≡ 0 → size m n k < taken + more → j ≡ record { number = 9; taken = 561; more = 0 } → Judges m n k taken more j
+-- a block all of whose bytes are there is read: its cell words by its counters
+abbrev pub ReadsWhole : ℕ → ℕ → ℕ → List ℕ → List ℕ → ReadAnswer → List ℕ → Type 0
+ReadsWhole m n k bs = Read m n k (cells_of m n k bs) (counters_of m n k bs)

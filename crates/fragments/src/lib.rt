@@ -1,85 +1,60 @@
 // A grid read of a block that arrives in lumps: a start, lumps of bytes cut anywhere, and a finish, which is the read of the joined bytes.
-// `start_at`, `lump_at` and `finish_at` are lent the fields of a transfer and copy none of them; `start`, `lump` and `finish` take and return a whole one.
+// `start_at`, `lump_at` and `finish_at` are lent a transfer and copy nothing of it; `start`, `lump` and `finish` take and return a whole one.
 #![tactic(auto)]
 
+mod sizes;
 mod whole;
 
-ghost use Rattle.std.specs.Prelude.{◌≡◌, [], min, length, take};
+ghost use Rattle.std.specs.Prelude.{◌≡◌, ◌+◌, [], IfOk, length};
+ghost use Rattle.bits.specs.Bits.{Below};
 ghost use Rattle.bits.specs.First.{First};
-ghost use Rattle.grid_promises.specs.Refusals.{InRange};
-ghost use Rattle.fragment_promises.specs.Transfers.{counter_bytes, size as size_is, standing as standing_is, transfer};
+ghost use Rattle.refusals.specs.Numbers.{number_of};
+ghost use Rattle.fragment_promises.specs.Transfers.{size, standing, transfer};
 ghost use Rattle.fragment_promises.specs.Demands.{length_refusals};
-ghost use Rattle.fragment_promises.specs.Promises.{Start, Lump, Finish, Finishes, Missing};
-ghost use Rattle.fragments.specs.Steps.{Judges};
+ghost use Rattle.fragment_promises.specs.Promises.{Start, Lump, Finishes, Missing};
 
 use fragment_promises::{LONGEST, MissingAnswer, Transfer};
 use grid_promises::ReadAnswer;
-use refusals::{ACCEPTED, LONG_BLOCK, OUT_OF_RANGE, SHORT_BLOCK, WRONG_LENGTH};
+use refusals::{ACCEPTED, Refusal, number_of};
+use sizes::Sizes;
 
 // The bytes that count as taken after a refused lump: more than any block has.
 const TOO_MANY: usize = LONGEST + 1;
 
-// How many bytes hold the counters of a block.
-fn counter_bytes(rows: usize, columns: usize, k: usize) -> usize
-    requires { InRange rows columns k }
-    ensures { result ≡ counter_bytes rows columns k }
+// How many bytes a block of any numbers lacks where `taken` were taken, or the refusal that its record has noted.
+fn lacking(rows: usize, columns: usize, k: usize, taken: usize) -> Result<usize, Refusal>
+    ensures noted { number_of result ≡ standing rows columns k taken }
+    ensures counted { IfOk result (λ n. taken + n ≡ size rows columns k) }
 {
-    grid_sizes::bytes_of(k, rows + columns)
+    Sizes::new(rows, columns, k)?.lacking(taken)
 }
 
-// The length of a block in bytes.
-fn size(rows: usize, columns: usize, k: usize) -> usize
-    requires { InRange rows columns k }
-    ensures { result ≡ size_is rows columns k }
+// Starts a transfer, whatever it held: no byte is taken yet. Like `lump_at` it answers a number, because C gets it.
+pub fn start_at(transfer: &mut Transfer, rows: usize, columns: usize, k: usize) -> usize
+    ensures { Start rows columns k result transfer.new }
 {
-    counter_bytes(rows, columns, k) + 8 * rows
+    transfer.rows = rows;
+    transfer.columns = columns;
+    transfer.k = k;
+    transfer.taken = 0;
+    transfer.bytes = [0u8; LONGEST];
+    number_of(lacking(rows, columns, k, 0))
 }
 
-// What a record has noted: 1, 9 or else 0.
-fn standing(rows: usize, columns: usize, k: usize, taken: usize) -> usize
-    ensures { result ≡ standing_is rows columns k taken }
-{
-    if !grid_sizes::in_range(rows, columns, k) {
-        return OUT_OF_RANGE;
-    }
-    if taken > size(rows, columns, k) {
-        return LONG_BLOCK;
-    }
-    ACCEPTED
-}
-
-// Starts a transfer, whatever its fields held: no byte is taken yet.
-pub fn start_at(
-    tall: &mut usize,
-    wide: &mut usize,
-    levels: &mut usize,
-    taken: &mut usize,
-    bytes: &mut [u8; LONGEST],
-    rows: usize,
-    columns: usize,
-    k: usize,
-) -> usize
-    ensures { Start rows columns k result (transfer tall.new wide.new levels.new taken.new bytes.new) }
-{
-    *tall = rows;
-    *wide = columns;
-    *levels = k;
-    *taken = 0;
-    *bytes = [0u8; LONGEST];
-    standing(rows, columns, k, 0)
-}
-
-// What a start and a lump return over a whole transfer: 0 or the number of the refusal, and the transfer from here on.
+// What a start and a lump return over a whole transfer: 0 or the number of the refusal, and the transfer from here on, refused or not.
+// `Start` and `Lump` speak of both.
 #[derive(Drop)]
 pub struct Step {
     pub number: usize,
     pub transfer: Transfer,
 }
 
+// A transfer that is started with these numbers.
+// It names the fields as `start_at` does: it makes a whole transfer, and `start_at` would have to be lent one, made and filled before.
 pub fn start(rows: usize, columns: usize, k: usize) -> Step
     ensures { Start rows columns k result.number result.transfer }
 {
-    let number = standing(rows, columns, k, 0);
+    let number = number_of(lacking(rows, columns, k, 0));
     let none = [0u8; LONGEST];
     let transfer = Transfer {
         rows,
@@ -91,76 +66,35 @@ pub fn start(rows: usize, columns: usize, k: usize) -> Step
     Step { number, transfer }
 }
 
-// How a lump goes: its number, how many bytes then count as taken, and how many of its own are put behind those that were.
-#[derive(Drop)]
-struct Judged {
-    number: usize,
-    taken: usize,
-    more: usize,
-}
-
-// A lump of `more` bytes. A record that has noted a refusal stays as it is.
-fn judge(rows: usize, columns: usize, k: usize, taken: usize, more: usize) -> Judged
-    ensures { Judges rows columns k taken more result }
+// Takes a lump of bytes, or notes that it is refused. A record that has noted a refusal stays as it is.
+fn take_lump(transfer: &mut Transfer, lump: &[u8]) -> Result<(), Refusal>
+    ensures { Lump transfer.old lump.now (number_of result) transfer.new }
 {
-    let number = standing(rows, columns, k, taken);
-    if number != ACCEPTED {
-        return Judged {
-            number,
-            taken,
-            more: 0,
-        };
+    let at = transfer.taken;
+    let room = lacking(transfer.rows, transfer.columns, transfer.k, at)?;
+    if lump.len() > room {
+        transfer.taken = TOO_MANY;
+        return Err(Refusal::LongBlock);
     }
-    if more > size(rows, columns, k) - taken {
-        return Judged {
-            number: LONG_BLOCK,
-            taken: TOO_MANY,
-            more: 0,
-        };
-    }
-    Judged {
-        number: ACCEPTED,
-        taken: taken + more,
-        more,
-    }
+    let end = at + lump.len();
+    words::copy_bytes(lump, &mut transfer.bytes[at..end]);
+    transfer.taken = end;
+    Ok(())
 }
 
-// Takes a lump of bytes, or notes that it is refused.
-pub fn lump_at(
-    taken: &mut usize,
-    bytes: &mut [u8; LONGEST],
-    rows: usize,
-    columns: usize,
-    k: usize,
-    lump: &[u8],
-) -> usize
-    ensures { Lump (transfer rows columns k taken.old bytes.old) lump.now result (transfer rows columns k taken.new bytes.new) }
+// Takes a lump of bytes, and answers 0 or the number of its refusal, which the record has noted.
+pub fn lump_at(transfer: &mut Transfer, lump: &[u8]) -> usize
+    ensures { Lump transfer.old lump.now result transfer.new }
 {
-    let at = *taken;
-    let j = judge(rows, columns, k, at, lump.len());
-    *taken = j.taken;
-    let more = j.more;
-    let mut i = 0;
-    while i < more {
-        bytes[at + i] = lump[i];
-        i += 1;
-    }
-    j.number
+    number_of(take_lump(transfer, lump))
 }
 
+// `lump_at` of a whole transfer, which it takes and returns.
 pub fn lump(t: Transfer, bytes: &[u8]) -> Step
     ensures { Lump t bytes.now result.number result.transfer }
 {
-    let mut taken = t.taken;
-    let mut held = t.bytes;
-    let number = lump_at(&mut taken, &mut held, t.rows, t.columns, t.k, bytes);
-    let transfer = Transfer {
-        rows: t.rows,
-        columns: t.columns,
-        k: t.k,
-        taken,
-        bytes: held,
-    };
+    let mut transfer = t;
+    let number = lump_at(&mut transfer, bytes);
     Step { number, transfer }
 }
 
@@ -168,75 +102,52 @@ pub fn lump(t: Transfer, bytes: &[u8]) -> Step
 pub fn missing(rows: usize, columns: usize, k: usize, taken: usize) -> MissingAnswer
     ensures { Missing rows columns k taken result }
 {
-    let number = standing(rows, columns, k, taken);
-    if number != ACCEPTED {
-        return MissingAnswer { number, bytes: 0 };
+    match lacking(rows, columns, k, taken) {
+        Ok(bytes) => MissingAnswer {
+            number: ACCEPTED,
+            bytes,
+        },
+        Err(refusal) => MissingAnswer {
+            number: refusal.number(),
+            bytes: 0,
+        },
     }
-    let bytes = size(rows, columns, k) - taken;
-    MissingAnswer { number, bytes }
 }
 
-// The refusal of a finish by numbers and lengths, where `taken` bytes count as taken and `held` are held: 1, 9, 2, 8 or else 0.
-fn unfinished(rows: usize, columns: usize, k: usize, taken: usize, held: usize, out: usize) -> usize
-    ensures { First (length_refusals rows columns k taken held out []) result }
+// The sizes of a block that is to be read, where `held` are its bytes and the output has `out` words; or the refusal of these.
+fn finished(t: &Transfer, held: &[u8], out: usize) -> Result<Sizes, Refusal>
+    ensures judged { First (length_refusals t.now.rows t.now.columns t.now.k t.now.taken (length held.now) out []) (number_of result) }
+    ensures kept { IfOk result (λ s. (s.rows ≡ t.now.rows) × (s.columns ≡ t.now.columns) × (s.k ≡ t.now.k)) }
+    ensures bytes { Below 256 held.now }
 {
-    let number = standing(rows, columns, k, taken);
-    if number != ACCEPTED {
-        return number;
+    let sizes = Sizes::new(t.rows, t.columns, t.k)?;
+    sizes.lacking(t.taken)?;
+    if out != t.rows {
+        return Err(Refusal::WrongLength);
     }
-    if out != rows {
-        return WRONG_LENGTH;
+    if held.len() < sizes.block_bytes() {
+        return Err(Refusal::ShortBlock);
     }
-    if held < size(rows, columns, k) {
-        return SHORT_BLOCK;
-    }
-    ACCEPTED
-}
-
-// How many bytes are held: those that were taken, or all that there are.
-fn held_bytes(taken: usize, room: usize) -> usize
-    ensures { result ≡ min taken room }
-{
-    if taken < room { taken } else { room }
-}
-
-// Reads the first `taken` of these bytes into `out` if they are a whole block.
-fn finish_held(
-    bytes: &[u8],
-    rows: usize,
-    columns: usize,
-    k: usize,
-    taken: usize,
-    out: &mut [u64],
-) -> ReadAnswer
-    ensures { Finish rows columns k taken (take taken bytes.now) out.old result out.new }
-{
-    let held = held_bytes(taken, bytes.len());
-    let number = unfinished(rows, columns, k, taken, held, out.len());
-    if number != ACCEPTED {
-        return ReadAnswer { number, index: 0 };
-    }
-    whole::read_whole(rows, columns, k, &bytes[..held], out)
+    Ok(sizes)
 }
 
 // Reads the block into `out` if all of it was taken.
-pub fn finish_at(
-    bytes: &[u8; LONGEST],
-    rows: usize,
-    columns: usize,
-    k: usize,
-    taken: usize,
-    out: &mut [u64],
-) -> ReadAnswer
-    ensures { Finishes (transfer rows columns k taken bytes.now) out.old result out.new }
+pub fn finish_at(transfer: &Transfer, out: &mut [u64]) -> ReadAnswer
+    ensures { Finishes transfer.now out.old result out.new }
 {
-    finish_held(&bytes[..], rows, columns, k, taken, out)
+    let held = &transfer.bytes[..transfer.taken.min(LONGEST)];
+    match finished(transfer, held, out.len()) {
+        Ok(sizes) => whole::read_whole(sizes, held, out),
+        Err(refusal) => ReadAnswer {
+            number: refusal.number(),
+            index: 0,
+        },
+    }
 }
 
+// `finish_at` of a whole transfer, which it takes.
 pub fn finish(t: Transfer, out: &mut [u64]) -> ReadAnswer
     ensures { Finishes t out.old result out.new }
 {
-    // An array in a field is lent by a variable.
-    let held = t.bytes;
-    finish_at(&held, t.rows, t.columns, t.k, t.taken, out)
+    finish_at(&t, out)
 }

@@ -1,3 +1,4 @@
+pub mod DepthLaws
 pub mod ShowLaws
 pub mod MisreadLaws
 pub mod StoreLaws

@@ -1,7 +1,7 @@
 -- Laws of the loop that judges whether a stuck cell would read wrong. Assumes nothing.
 use Prim.Native.Nat.{ℕ, ◌+◌, ◌^◌, ◌<◌}
 use mathlib.Core.Path.{◌≡◌, ap, ap₂, ◌∙◌}
-use mathlib.Core.Bool.{not, xor, ◌&&◌, ◌||◌}
+use mathlib.Core.Bool.{not, xor, ◌&&◌, ◌||◌, or_comm}
 use mathlib.Core.List.{List}
 use native.Mathlib.Nat.{lt_of_le_of_lt}
 use native.Mathlib.Numerals.{add-one}
@@ -28,14 +28,16 @@ unfolding some
 seen_none x mask values = record { small = pow_pos 64; columns = has_zero }
 
 pub seen_more : (x mask values : List ℕ) (i wrong : ℕ) → get_or mask i 0 < 2 ^ 64 → Seen x mask values i wrong
-    → Seen x mask values (i + 1) (bit_or (bit_and (get_or mask i 0) (bit_xor (get_or x i 0) (get_or values i 0))) wrong)
+    → Seen x mask values (i + 1) (bit_or wrong (bit_and (get_or mask i 0) (bit_xor (get_or x i 0) (get_or values i 0))))
 unfolding some bit
-seen_more x mask values i wrong l s = record {
-  small = or_lt 64 _ wrong (lt_of_le_of_lt (and_le_l (get_or mask i 0) (bit_xor (get_or x i 0) (get_or values i 0))) l) s.small;
-  columns = λ j.
-      has_or (bit_and (get_or mask i 0) (bit_xor (get_or x i 0) (get_or values i 0))) wrong j
-      ∙ rw add-one (ap₂ ◌||◌ (wrong_bits (get_or x i 0) (get_or mask i 0) (get_or values i 0) j) (s.columns j));
-}
+seen_more x mask values i wrong l s =
+    let row = bit_and (get_or mask i 0) (bit_xor (get_or x i 0) (get_or values i 0)) in
+    record {
+      small = or_lt 64 wrong row s.small (lt_of_le_of_lt (and_le_l (get_or mask i 0) (bit_xor (get_or x i 0) (get_or values i 0))) l);
+      columns = λ j.
+          has_or wrong row j ∙ or_comm (has wrong j) (has row j)
+          ∙ rw add-one (ap₂ ◌||◌ (wrong_bits (get_or x i 0) (get_or mask i 0) (get_or values i 0) j) (s.columns j));
+    }
 
 -- such a cell was seen in some column
 pub seen_some : (x mask values : List ℕ) (i wrong : ℕ) → i ≡ length x → Seen x mask values i wrong → not (eqb wrong 0) ≡ any_differs x mask values

@@ -1,23 +1,32 @@
 -- What a code proof cites at each return of a read with its greatest counter: from the tests' values and the counters' sets to the whole promise. Assumes nothing.
 use Prim.Native.Nat.{ℕ, ◌+◌, ◌<◌, ◌≤◌}
 use mathlib.Core.Path.{◌≡◌, refl, sym, ap, ap₂, subst, ◌∙◌}
-use mathlib.Core.Bool.{true, false, not, xor, cond}
+use mathlib.Core.Bool.{Bool, true, false, not, xor, cond}
 use mathlib.Core.List.{List}
+use Rattle.std.specs.Prelude.{Ok, Err}
 use native.Mathlib.Omega.{arith}
-use lib.ListN.{length, get_or}
+use lib.ListN.{length, get_or, take}
+use Rattle.std.specs.List.{count_by, zip}
 use Rattle.bits.specs.Bits.{most}
 use Rattle.bits.proofs.TestLaws.{xor_false}
 use Rattle.bits.proofs.BoundLaws.{most_at}
 use Rattle.bits.proofs.BitLaws.{has_high}
-use Rattle.bits.proofs.ByteLaws.{words_narrow}
+use Rattle.bits.proofs.ByteLaws.{length_words, words_narrow}
 use Rattle.rdis.specs.Block.{bit}
 use Rattle.rdis.specs.Cells.{flips, reading}
 use Rattle.rdis.specs.Packing.{width, counter, row_counter, column_counter, above, spare_clear}
-use Rattle.grid_sets.specs.Sets.{odd, filled}
+use Rattle.grid_sets.specs.Sets.{sets_of, odd, filled}
 use Rattle.grid_sets.proofs.SetLaws.{odd_flips, odd_past, filled_most}
-use Rattle.grid_sets.specs.Promises.{roomy, unpack_number, Unpack}
+use Rattle.grid_sets.specs.Promises.{roomy, unpack_number, Numbers, Unpack}
+use Rattle.grid_sets.proofs.JudgedLaws.{unpack_numbers}
+use Rattle.refusals.proofs.NumberLaws.{number_some}
 use Rattle.grid_sets.specs.declared.Counters.{Counters}
 use Rattle.grid_sets.proofs.RoomLaws.{is_roomy_lem, accepts, none_above_k}
+use Rattle.refusals.specs.Numbers.{number, index, number_of}
+use Rattle.refusals.specs.declared.Refusal.{Refusal}
+use Rattle.refusals.specs.declared.Refusal.TheVariants.{BitPastEnd}
+use Rattle.grid_promises.specs.declared.ReadAnswer.{ReadAnswer}
+use Rattle.grid_promises.specs.Promises.{Read}
 use Rattle.grid_promises.specs.Calls.{in_range, past, read_sized, read_number, bad_index}
 use Rattle.grid_promises.specs.Refusals.{InRange, ReadLengths}
 use Rattle.grid_promises.proofs.RefusalLaws.{in_range_lem, read_sized_lem, within}
@@ -26,51 +35,55 @@ use Rattle.grid_promises.proofs.ReadDemands.{read_demands}
 use Rattle.grid_patterns.specs.Promises.{inverted_by, Invert}
 use Rattle.grid_patterns.proofs.InvertLaws.{can_invert}
 use Rattle.grid_checks.specs.Numbers.{judged, read_judged}
-use Rattle.grid.specs.declared.shows.Shown.{Shown}
-use Rattle.grid.specs.Steps.{ShowSized, Shows}
-use Rattle.grid_levels.proofs.Returns.{stands, passes, not_four}
+use Rattle.grid.specs.Steps.{ShowSized, Shows, has_line}
+use Rattle.grid.proofs.DepthLaws.{filled_is}
+use Rattle.grid_levels.proofs.Returns.{passes, judged_refusal}
 
-module _ (m n k upto : ℕ) (cells counters out : List ℕ) where
-  refused_show : (s : Shown) → s.levels ≡ 0 → s.index ≡ bad_index k (m + n) counters s.number → (s.number ≡ 0 → ⊥)
-      → s.number ≡ read_number m n k cells counters (length out) → Shows m n k upto cells counters out s out
-  refused_show s w i l e = record {
-    reads = read_demands m n k cells counters out (record { number = s.number; index = s.index }) out (record { number = e; index_is = i; untouched = λ _. refl; shown = λ z. absurd (l z) });
-    uncounted = λ _. w;
-    greatest = λ z. absurd (l z);
-  }
+-- there are eight sets
+sets_long : (n : ℕ) (f : ℕ → ℕ) → length (sets_of n f) ≡ 8
+unfolding sets_of
+sets_long n f = length_words 8 n _
+
+module _ (m n k : ℕ) (cells counters out : List ℕ) where
+  refused_read : (e : Refusal) → index e ≡ bad_index k (m + n) counters (number e) → number e ≡ read_number m n k cells counters (length out)
+      → Read m n k cells counters out (record { number = number e; index = index e }) out
+  refused_read e i h = read_demands m n k cells counters out (record { number = number e; index = index e }) out
+      (record { number = h; index_is = i; untouched = λ _. refl; shown = λ z. absurd (omega (arith, number_some e, z)) })
 
   -- ---- numbers and lengths
 
-  module _ (x : ℕ) (e : x ≡ read_judged m n k (length cells) (length counters) (length out)) where
-    by_tests : x ≡ cond (not (in_range m n k)) 1 (cond (read_sized m n k (length cells) (length counters) (length out)) 0 2)
+  abbrev number_judged : ℕ
+  number_judged = read_judged m n k (length cells) (length counters) (length out)
+
+  abbrev sized : Bool
+  sized = read_sized m n k (length cells) (length counters) (length out)
+
+  pub show_judged : (e : Refusal) → number e ≡ number_judged → Read m n k cells counters out (record { number = number e; index = index e }) out
+  unfolding judged read_number
+  show_judged e h =
+      let (x, other, i) = judged_refusal (in_range m n k) sized _ e h in
+      refused_read e (i ∙ sym (no_index k (m + n) counters (number e) other)) x
+
+  -- numbers and lengths that are right leave it to the words, and then let a function go on that knows the rows by the words alone; and what it promises is promised of the rows
+  module _ (z : 0 ≡ number_judged) where
+    right : (in_range m n k ≡ true) × (sized ≡ true)
     unfolding judged
-    by_tests = e
+    right = passes (in_range m n k) sized (sym z)
 
-    pub show_judged : (s : Shown) → s.levels ≡ 0 → s.index ≡ 0 → s.number ≡ x → (x ≡ 0 → ⊥) → Shows m n k upto cells counters out s out
+    lengths : ReadLengths m n k (length cells) (length counters) (length out)
+    lengths = (read_sized_lem m n k (length cells) (length counters) (length out)).0 right.1
+
+    pub show_past : past n cells ≡ true → Read m n k cells counters out (record { number = 3; index = 0 }) out
     unfolding read_number
-    show_judged s w i y h =
-        refused_show s w (i ∙ sym (no_index k (m + n) counters s.number (λ z. not_four (in_range m n k) (read_sized m n k (length cells) (length counters) (length out)) (sym by_tests ∙ sym y ∙ z)))) (λ z. h (sym y ∙ z)) (y ∙ by_tests ∙ stands (in_range m n k) (read_sized m n k (length cells) (length counters) (length out)) _ (λ z. h (by_tests ∙ z)))
+    show_past h = refused_read BitPastEnd (sym (no_index k (m + n) counters 3 (λ f. omega arith))) (rw (right.0, right.1, h))
 
-    -- numbers and lengths that are right leave it to the words, and then let a function go on that knows the rows by the words alone; and what it promises is promised of the rows
-    module _ (z : x ≡ 0) where
-      right : (in_range m n k ≡ true) × (read_sized m n k (length cells) (length counters) (length out) ≡ true)
-      right = passes (in_range m n k) (read_sized m n k (length cells) (length counters) (length out)) (sym by_tests ∙ z)
+    pub show_goes_on : past n cells ≡ false → ShowSized n k cells counters out
+    show_goes_on inside =
+        let l = lengths in
+        record { ranges = rw l.cell_words right.0; sizes = rw l.cell_words l.counter_bytes; room = l.out_words ∙ sym l.cell_words; inside = inside }
 
-      lengths : ReadLengths m n k (length cells) (length counters) (length out)
-      lengths = (read_sized_lem m n k (length cells) (length counters) (length out)).0 right.1
-
-      pub show_past : (s : Shown) → s.levels ≡ 0 → s.index ≡ 0 → s.number ≡ 3 → past n cells ≡ true → Shows m n k upto cells counters out s out
-      unfolding read_number
-      show_past s w i y h =
-          refused_show s w (i ∙ sym (no_index k (m + n) counters s.number (λ z. omega (arith, y)))) (λ z. omega (arith, y)) (y ∙ rw (right.0, right.1, h))
-
-      pub show_goes_on : past n cells ≡ false → ShowSized n k cells counters out
-      show_goes_on inside =
-          let l = lengths in
-          record { ranges = rw l.cell_words right.0; sizes = rw l.cell_words l.counter_bytes; room = l.out_words ∙ sym l.cell_words; inside = inside }
-
-      pub show_comes_back : (s : Shown) (after : List ℕ) → Shows (length cells) n k upto cells counters out s after → Shows m n k upto cells counters out s after
-      show_comes_back s after r = subst (λ y. Shows y n k upto cells counters out s after) lengths.cell_words r
+    pub show_comes_back : (a : ReadAnswer) (after : List ℕ) → Read (length cells) n k cells counters out a after → Read m n k cells counters out a after
+    show_comes_back a after r = subst (λ y. Read y n k cells counters out a after) lengths.cell_words r
 
 -- ---- the counters
 
@@ -87,21 +100,28 @@ module _ (n k upto : ℕ) (cells counters out : List ℕ) (p : ShowSized n k cel
 
   -- the counters decide
   module _ (c : Counters) (u : Unpack k (length cells) n counters c) where
-    number_is : c.number ≡ cond (not (spare_clear (width k) (length cells + n) counters)) 3 (cond (above k (length cells + n) counters) 4 0)
-    unfolding unpack_number
-    number_is = u.number ∙ rw room
+    numbers : Numbers k (length cells + n) counters (unpack_number k (length cells) n counters) c.judged
+    numbers = unpack_numbers k (length cells) n counters c u
 
-    read_number_lem : c.number ≡ read_number (length cells) n k cells counters (length out)
+    number_is : number_of c.judged ≡ cond (not (spare_clear (width k) (length cells + n) counters)) 3 (cond (above k (length cells + n) counters) 4 0)
+    unfolding unpack_number
+    number_is = numbers.number ∙ rw room
+
+    read_number_lem : number_of c.judged ≡ read_number (length cells) n k cells counters (length out)
     unfolding read_number
     read_number_lem = number_is ∙ rw (p.ranges, sizes, p.inside)
 
-    pub show_refused : (s : Shown) → s.levels ≡ 0 → s.index ≡ c.index → s.number ≡ c.number → (c.number ≡ 0 → ⊥) → Shows (length cells) n k upto cells counters out s out
-    show_refused s w i e h =
-        refused_show (length cells) n k upto cells counters out s w (index_is_lem k (length cells + n) counters s.number s.index (λ f. i ∙ u.names (sym e ∙ f)) (λ f. i ∙ u.names_none (λ g. f (e ∙ g)))) (λ z. h (sym e ∙ z)) (e ∙ read_number_lem)
+    pub show_refused : (e : Refusal) → c.judged ≡ Err e → Shows (length cells) n k upto cells counters out (Err e) out
+    show_refused e h = record {
+      reads = refused_read (length cells) n k cells counters out e
+          (index_is_lem k (length cells + n) counters (number e) (index e) (λ f. rw h at numbers.names f) (λ f. rw h at numbers.names_none f))
+          (ap number_of (sym h) ∙ read_number_lem);
+      greatest = λ _. tt;
+    }
 
-    module _ (z : c.number ≡ 0) where
+    module _ (z : c.judged ≡ Ok tt) where
       low : (t : ℕ) → t < length cells + n → counter (width k) counters t ≤ k
-      low = none_above_k k (length cells + n) counters (accepts (spare_clear (width k) (length cells + n) counters) (above k (length cells + n) counters) (sym number_is ∙ z)).1
+      low = none_above_k k (length cells + n) counters (accepts (spare_clear (width k) (length cells + n) counters) (above k (length cells + n) counters) (sym number_is ∙ ap number_of z)).1
 
       cell_inside : (i j : ℕ) → i < length cells → j < n
           → inverted_by c.rows c.columns k cells i j ≡ xor (flips (row_counter (width k) counters) (column_counter (width k) (length cells) counters) i j) (bit cells i j)
@@ -130,15 +150,14 @@ module _ (n k upto : ℕ) (cells counters out : List ℕ) (p : ShowSized n k cel
           ap₂ (λ x y. filled x y k) (u.row_sets room) (u.column_sets room)
           ∙ filled_most (length cells) n k (counter (width k) counters) (omega (arith, range.levels.1)) (omega (arith, low t l))
 
-      pub show_done : (s : Shown) (after : List ℕ) → s.number ≡ 0 → s.index ≡ 0 → s.levels ≡ filled c.rows c.columns upto → Invert c.rows c.columns k cells out after
-          → Shows (length cells) n k upto cells counters out s after
-      show_done s after e x l i = record {
-        reads = read_demands (length cells) n k cells counters out (record { number = s.number; index = s.index }) after (record {
-          number = e ∙ sym z ∙ read_number_lem;
-          index_is = x ∙ sym (no_index k (length cells + n) counters s.number (λ f. omega (arith, e)));
-          untouched = λ h. absurd (omega (arith, e));
+      pub show_done : (levels : ℕ) (after : List ℕ) → upto ≤ 8 → levels ≡ count_by has_line (take upto (zip c.rows c.columns)) → Invert c.rows c.columns k cells out after
+          → Shows (length cells) n k upto cells counters out (Ok levels) after
+      show_done levels after few l i = record {
+        reads = read_demands (length cells) n k cells counters out (record { number = 0; index = 0 }) after (record {
+          number = ap number_of (sym z) ∙ read_number_lem;
+          index_is = sym (no_index k (length cells + n) counters 0 (λ f. omega arith));
+          untouched = λ h. absurd (omega arith);
           shown = λ _. shows after i;
         });
-        uncounted = λ f. absurd (f e);
-        greatest = λ _ f. l ∙ ap (filled c.rows c.columns) f ∙ depth_is;
+        greatest = λ f. l ∙ filled_is c.rows c.columns upto (rw (u.row_sets room, sets_long) few) (rw (u.column_sets room, sets_long) few) ∙ ap (filled c.rows c.columns) f ∙ depth_is;
       }

@@ -4,6 +4,7 @@ use mathlib.Core.Path.{◌≡◌, refl, sym, ap, subst, ◌∙◌}
 use mathlib.Core.Bool.{Bool, true, false, not, xor, cond, ◌&&◌}
 use mathlib.Core.List.{List}
 use mathlib.Core.Logic.{⊎_elim}
+use Rattle.std.specs.Prelude.{Result, Ok, Err}
 use native.Mathlib.Omega.{arith}
 use lib.Dec.{eqb}
 use lib.ListN.{length, get_or}
@@ -18,6 +19,10 @@ use Rattle.rdis.specs.Cells.{flips, reading, misread, misreads}
 use Rattle.rdis.specs.Packing.{width, row_counter, column_counter, above, spare_clear}
 use Rattle.rdis.proofs.CellLaws.{length_reading, stored_inverted}
 use Rattle.grid_sets.proofs.RoomLaws.{accepts}
+use Rattle.refusals.proofs.NumberLaws.{number_some}
+use Rattle.refusals.specs.Numbers.{number, index, number_of}
+use Rattle.refusals.specs.declared.Refusal.{Refusal}
+use Rattle.refusals.specs.declared.Refusal.TheVariants.{BitPastEnd, Misread}
 use Rattle.grid_promises.specs.Calls.{in_range, past, read_number, block, plan_past, store_sized, store_number, bad_index}
 use Rattle.grid_promises.specs.Refusals.{StoreLengths}
 use Rattle.grid_promises.specs.Promises.{Store}
@@ -26,56 +31,58 @@ use Rattle.grid_promises.proofs.RefusalLaws.{in_range_lem, read_sized_lem, store
 use Rattle.grid_promises.proofs.StoreDemands.{store_demands}
 use Rattle.grid_promises.proofs.IndexLaws.{no_index}
 use Rattle.grid_checks.specs.Numbers.{judged, store_judged}
-use Rattle.grid.specs.declared.shows.Shown.{Shown}
-use Rattle.grid_levels.specs.Steps.{block_of, Rows, Refuses, Accepts}
+use Rattle.grid_levels.specs.Steps.{block_of, Accepts, answered}
 use Rattle.grid.specs.Steps.{ShowSized, StoreSized, Shows, any_differs}
-use Rattle.grid_levels.proofs.Returns.{stands, passes, not_four, none_of, mask_inside}
+use Rattle.grid_levels.proofs.Returns.{passes, judged_refusal, none_of, mask_inside}
 
-refused_store : (b : Block) (k : ℕ) (counters cells : List ℕ) (a : Answer) (x t : ℕ) → (x ≡ 0 → ⊥) → x ≡ store_number b k counters (length cells)
-    → t ≡ bad_index k (b.rows + b.columns) counters x → Refuses x t a → Store b k counters cells a cells
-refused_store b k counters cells a x t l e i r =
-    let n = r.number in
-    store_demands b k counters cells a cells (record {
-      number = n ∙ e;
-      index_is = r.index ∙ i ∙ ap (bad_index k (b.rows + b.columns) counters) (sym n);
-      untouched = λ _. (r.counts, refl);
-      cells_are = λ z. absurd (l (sym n ∙ z));
-      levels_are = λ z. absurd (l (sym n ∙ z));
-      faults_are = λ z. absurd (l (sym n ∙ z));
-      kinds_are = λ z. absurd (l (sym n ∙ z));
+refused_store : (b : Block) (k : ℕ) (counters cells : List ℕ) (e : Refusal) → number e ≡ store_number b k counters (length cells)
+    → index e ≡ bad_index k (b.rows + b.columns) counters (number e) → Store b k counters cells (answered (Err e)) cells
+refused_store b k counters cells e n i =
+    store_demands b k counters cells (answered (Err e)) cells (record {
+      number = n;
+      index_is = i;
+      untouched = λ _. (record { levels = refl; faults = refl; wrong = refl; right = refl }, refl);
+      cells_are = λ z. absurd (omega (arith, number_some e, z));
+      levels_are = λ z. absurd (omega (arith, number_some e, z));
+      faults_are = λ z. absurd (omega (arith, number_some e, z));
+      kinds_are = λ z. absurd (omega (arith, number_some e, z));
     })
 
 -- ---- numbers and lengths
 
-module _ (m n k : ℕ) (d mask values counters cells : List ℕ) (x : ℕ) (e : x ≡ store_judged m n k (length d) (length mask) (length values) (length counters) (length cells)) where
+module _ (m n k : ℕ) (d mask values counters cells : List ℕ) where
   abbrev b : Block
   b = block m n d mask values
 
-  by_tests : x ≡ cond (not (in_range m n k)) 1 (cond (store_sized b k (length counters) (length cells)) 0 2)
-  unfolding judged
-  by_tests = e
+  abbrev number_judged : ℕ
+  number_judged = store_judged m n k (length d) (length mask) (length values) (length counters) (length cells)
 
-  pub store_judged_lem : (a : Answer) → (x ≡ 0 → ⊥) → Refuses x 0 a → Store b k counters cells a cells
-  unfolding store_number
-  store_judged_lem a h r =
-      refused_store b k counters cells a x 0 h (by_tests ∙ stands (in_range m n k) (store_sized b k (length counters) (length cells)) _ (λ z. h (by_tests ∙ z)))
-      (sym (no_index k (m + n) counters x (λ z. not_four (in_range m n k) (store_sized b k (length counters) (length cells)) (sym by_tests ∙ z)))) r
+  pub store_judged_lem : (e : Refusal) → number e ≡ number_judged → Store b k counters cells (answered (Err e)) cells
+  unfolding judged store_number
+  store_judged_lem e h =
+      let (x, other, i) = judged_refusal (in_range m n k) (store_sized b k (length counters) (length cells)) _ e h in
+      refused_store b k counters cells e x (i ∙ sym (no_index k (m + n) counters (number e) other))
 
-  module _ (z : x ≡ 0) where
+  module _ (z : 0 ≡ number_judged) where
     right : (in_range m n k ≡ true) × (store_sized b k (length counters) (length cells) ≡ true)
-    right = passes (in_range m n k) (store_sized b k (length counters) (length cells)) (sym by_tests ∙ z)
+    unfolding judged
+    right = passes (in_range m n k) (store_sized b k (length counters) (length cells)) (sym z)
 
     store_lengths : StoreLengths b k (length counters) (length cells)
     store_lengths = (store_sized_lem b k (length counters) (length cells)).0 right.1
 
-    pub store_goes_on : StoreSized n k d mask values counters cells
+    -- as many words of each, at most 64
+    pub store_rows : (length d ≤ 64) × (length mask ≡ length d) × (length values ≡ length d)
+    store_rows =
+        let l = store_lengths.planned in
+        let w = l.data_words in
+        (rw w ((in_range_lem m n k).0 right.0).rows.1, l.mask_words ∙ sym w, l.value_words ∙ sym w)
+
+    pub store_goes_on : StoreSized n k d counters cells
     store_goes_on =
         let l = store_lengths.planned in
         let w = l.data_words in
-        record {
-          planned = record { ranges = rw w right.0; masks = l.mask_words ∙ sym w; stuck_at = l.value_words ∙ sym w; sizes = rw w l.counter_bytes };
-          room = store_lengths.cell_words ∙ sym w;
-        }
+        record { planned = record { ranges = rw w right.0; sizes = rw w l.counter_bytes }; room = store_lengths.cell_words ∙ sym w }
 
     pub store_comes_back : (a : Answer) (cells' : List ℕ) → Store (block_of n d mask values) k counters cells a cells' → Store b k counters cells a cells'
     store_comes_back a cells' p = subst (λ y. Store (block y n d mask values) k counters cells a cells') store_lengths.planned.data_words p
@@ -133,7 +140,7 @@ not_right true true y h = refl
 not_right true false y h = absurd (h refl)
 not_right false a y h = refl
 
-module _ (n k : ℕ) (d mask values counters cells : List ℕ) (s : StoreSized n k d mask values counters cells) where
+module _ (n k : ℕ) (d mask values counters cells : List ℕ) (masks : length mask ≡ length d) (stuck_at : length values ≡ length d) (s : StoreSized n k d counters cells) where
   abbrev own : Block
   own = block_of n d mask values
 
@@ -141,19 +148,19 @@ module _ (n k : ℕ) (d mask values counters cells : List ℕ) (s : StoreSized n
   lengths_right =
       let p = s.planned in
       (store_sized_lem own k (length counters) (length cells)).1
-      (record { planned = record { data_words = refl; mask_words = p.masks; value_words = p.stuck_at; counter_bytes = p.sizes }; cell_words = s.room })
+      (record { planned = record { data_words = refl; mask_words = masks; value_words = stuck_at; counter_bytes = p.sizes }; cell_words = s.room })
 
-  pub store_past_lem : (a : Answer) → plan_past own ≡ true → Refuses 3 0 a → Store own k counters cells a cells
+  pub store_past_lem : plan_past own ≡ true → Store own k counters cells (answered (Err BitPastEnd)) cells
   unfolding store_number
-  store_past_lem a h r =
-      refused_store own k counters cells a 3 0 (λ z. omega arith) (rw (s.planned.ranges, lengths_right, h)) (sym (no_index k (length d + n) counters 3 (λ z. omega arith))) r
+  store_past_lem h =
+      refused_store own k counters cells BitPastEnd (rw (s.planned.ranges, lengths_right, h)) (sym (no_index k (length d + n) counters 3 (λ z. omega arith)))
 
   -- the data, within the columns, is read by the counters
   pub shows_on : plan_past own ≡ false → (apart : List ℕ) → length apart ≡ length d → ShowSized n k d counters apart
   shows_on inside apart l =
       record { ranges = s.planned.ranges; sizes = s.planned.sizes; room = l; inside = (none_of (past n d) (past n mask) (past n values) inside).0 }
 
-  module _ (inside : plan_past own ≡ false) (apart apart' : List ℕ) (l : length apart ≡ length d) (r : Shown) (i : Shows (length d) n k k d counters apart r apart') where
+  module _ (inside : plan_past own ≡ false) (apart apart' : List ℕ) (l : length apart ≡ length d) where
     abbrev rows : ℕ → ℕ
     rows = row_counter (width k) counters
 
@@ -164,36 +171,31 @@ module _ (n k : ℕ) (d mask values counters cells : List ℕ) (s : StoreSized n
     ranges = s.planned.ranges
 
     -- of the counters alone: numbers and lengths are right, and the data is within the columns
-    number_is : r.number ≡ cond (not (spare_clear (width k) (length d + n) counters)) 3 (cond (above k (length d + n) counters) 4 0)
+    number_is : (r : Result ℕ Refusal) → Shows (length d) n k k d counters apart r apart'
+        → number_of r ≡ cond (not (spare_clear (width k) (length d + n) counters)) 3 (cond (above k (length d + n) counters) 4 0)
     unfolding read_number
-    number_is =
+    number_is r i =
         let sizes = (read_sized_lem (length d) n k (length d) (length counters) (length apart)).1 (record { cell_words = refl; counter_bytes = s.planned.sizes; out_words = l }) in
         i.reads.exactly.number ∙ rw (ranges, sizes, (none_of (past n d) (past n mask) (past n values) inside).0)
 
-    pub store_refused_lem : (a : Answer) → (r.number ≡ 0 → ⊥) → Refuses r.number r.index a → Store own k counters cells a cells
+    pub store_refused_lem : (e : Refusal) → Shows (length d) n k k d counters apart (Err e) apart' → Store own k counters cells (answered (Err e)) cells
     unfolding store_number
-    store_refused_lem a h f =
-        refused_store own k counters cells a r.number r.index h
-        (number_is ∙ rw (ranges, lengths_right, inside) (not_right (spare_clear (width k) (length d + n) counters) (above k (length d + n) counters) _ (λ z. h (number_is ∙ z))))
-        i.reads.exactly.index_is f
+    store_refused_lem e i =
+        let f = number_is (Err e) i in
+        refused_store own k counters cells e
+        (f ∙ rw (ranges, lengths_right, inside) (not_right (spare_clear (width k) (length d + n) counters) (above k (length d + n) counters) _ (λ z. omega (arith, number_some e, f ∙ z))))
+        i.reads.exactly.index_is
 
     -- the counters are accepted, and what they show of the data is judged
-    module _ (z : r.number ≡ 0) where
+    module _ (levels : ℕ) (i : Shows (length d) n k k d counters apart (Ok levels) apart') where
       shown_is : apart' ≡ reading (length d) n rows columns d
-      shown_is = i.reads.exactly.shown z
+      shown_is = i.reads.exactly.shown refl
 
       as_many : length apart' ≡ length d
       as_many = ap length shown_is ∙ length_reading (length d) n rows columns d
 
       right_counters : (spare_clear (width k) (length d + n) counters ≡ true) × (above k (length d + n) counters ≡ false)
-      right_counters = accepts (spare_clear (width k) (length d + n) counters) (above k (length d + n) counters) (sym number_is ∙ z)
-
-      pub apart_rows : Rows apart' mask values
-      apart_rows = record {
-        few = rw as_many ((in_range_lem (length d) n k).0 ranges).rows.1;
-        masks = s.planned.masks ∙ sym as_many;
-        stuck_at = s.planned.stuck_at ∙ sym as_many;
-      }
+      right_counters = accepts (spare_clear (width k) (length d + n) counters) (above k (length d + n) counters) (sym (number_is (Ok levels) i))
 
       module _ (wrong : Bool) (e : wrong ≡ any_differs apart' mask values) where
         judged_right : wrong ≡ misreads own rows columns
@@ -201,14 +203,14 @@ module _ (n k : ℕ) (d mask values counters cells : List ℕ) (s : StoreSized n
             e ∙ ap (λ x. any_differs x mask values) shown_is
             ∙ judged_is own rows columns ((in_range_lem (length d) n k).0 ranges).columns.1 (mask_inside n d mask values inside)
 
-        pub store_misread : (a : Answer) → wrong ≡ true → Refuses 13 0 a → Store own k counters cells a cells
+        pub store_misread : wrong ≡ true → Store own k counters cells (answered (Err Misread)) cells
         unfolding store_number
-        store_misread a h f =
+        store_misread h =
             let right : misreads own rows columns ≡ true = sym judged_right ∙ h in
-            refused_store own k counters cells a 13 0 (λ z. omega arith) (rw (ranges, lengths_right, inside, right_counters.0, right_counters.1, right))
-            (sym (no_index k (length d + n) counters 13 (λ z. omega arith))) f
+            refused_store own k counters cells Misread (rw (ranges, lengths_right, inside, right_counters.0, right_counters.1, right))
+            (sym (no_index k (length d + n) counters 13 (λ z. omega arith)))
 
-        pub store_done : (a : Answer) (cells' : List ℕ) → wrong ≡ false → Accepts d mask values r.levels a
+        pub store_done : (a : Answer) (cells' : List ℕ) → wrong ≡ false → Accepts d mask values levels a
             → cells' ≡ cond (eqb (length cells) (length apart')) apart' cells → Store own k counters cells a cells'
         unfolding store_number
         store_done a cells' h f g =
@@ -219,7 +221,7 @@ module _ (n k : ℕ) (d mask values counters cells : List ℕ) (s : StoreSized n
               untouched = λ l. absurd (omega (arith, f.number));
               cells_are = λ _.
                   g ∙ sym (as_long_lem (length cells) (length apart') apart' cells (s.room ∙ sym as_many)) ∙ shown_is ∙ stored_inverted own rows columns right;
-              levels_are = λ _. f.levels ∙ i.greatest z refl;
+              levels_are = λ _. f.levels ∙ i.greatest refl;
               faults_are = λ _. f.faults_are;
               kinds_are = λ _. f.kinds_are n (mask_inside n d mask values inside);
             })

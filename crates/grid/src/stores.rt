@@ -1,39 +1,35 @@
 // What a store judges of its inverted data, and what it counts.
 ghost use Rattle.std.specs.Prelude.{◌≡◌};
-ghost use Rattle.grid_levels.specs.Steps.{Rows, Accepts};
+ghost use Rattle.grid_levels.specs.Steps.{Accepts};
 ghost use Rattle.grid.specs.Steps.{any_differs};
 
-use grid_levels::{stuck_rows, wrong_cells};
+use grid_levels::{Rows, stuck_rows, wrong_cells};
 use grid_promises::Answer;
 use refusals::ACCEPTED;
 
-// Whether some stuck cell would read wrong: the data, inverted as a read will invert it back, is not its stuck value. A word a row, tested once.
-pub fn misreads(inverted: &[u64], mask: &[u64], values: &[u64]) -> bool
-    requires { Rows inverted.now mask.now values.now }
-    ensures { result ≡ any_differs inverted.now mask.now values.now }
+// Whether some stuck cell would read wrong: the data of these rows, inverted as a read will invert it back, is not its stuck value. A word a row, tested once.
+pub fn misreads(inverted: &Rows) -> bool
+    ensures { let r = inverted.now in result ≡ any_differs r.data.now r.mask.now r.values.now }
 {
     let mut wrong = 0u64;
-    let mut i = 0;
-    while i < inverted.len() {
-        wrong = (mask[i] & (inverted[i] ^ values[i])) | wrong;
-        i += 1;
+    for i in 0..inverted.data.len() {
+        wrong |= inverted.mask[i] & (inverted.data[i] ^ inverted.values[i]);
     }
     wrong != 0
 }
 
-// The answer that accepts with these levels. The cells are counted in the rows that hold a stuck one: they are few.
-pub fn counted(levels: usize, data: &[u64], mask: &[u64], values: &[u64]) -> Answer
-    requires { Rows «data».now mask.now values.now }
-    ensures { Accepts «data».now mask.now values.now levels result }
+// The answer that accepts with these levels. The cells are counted in the rows that hold a stuck one: they are few. `first_level` of a plan sums the same:
+// one function for both is compiled apart, and a plan takes longer. A plan's `accepted` has a `requires`, so it is not public, and the answer is made here.
+pub fn counted(levels: usize, rows: &Rows) -> Answer
+    ensures { let r = rows.now in Accepts r.data.now r.mask.now r.values.now levels result }
 {
-    let mut faults: usize = 0;
-    let mut wrong: usize = 0;
-    let mut rest = stuck_rows(mask);
-    while rest != 0 {
-        let i = u64::trailing_zeros(rest) as usize;
-        faults += u64::count_ones(mask[i]) as usize;
-        wrong += u64::count_ones(wrong_cells(data[i], mask[i], values[i])) as usize;
-        rest = rest & (rest - 1);
+    let mut faults = 0;
+    let mut wrong = 0;
+    for i in words::ones(stuck_rows(rows.mask)) {
+        let mask = rows.mask[i];
+        let w = wrong_cells(rows.data[i], mask, rows.values[i]);
+        faults += mask.count_ones() as usize;
+        wrong += w.count_ones() as usize;
     }
     Answer {
         number: ACCEPTED,

@@ -3,15 +3,18 @@ use mathlib.Core.Path.{◌≡◌, refl, sym, ap, ap₂, ◌∙◌}
 use mathlib.Core.Bool.{Bool, true, false, not, cond, ◌&&◌, ◌||◌, and-true, and_comm}
 use mathlib.Core.List.{List}
 use mathlib.Core.Logic.{◌⊎◌, inl, inr}
-use Prim.Native.Nat.{ℕ, ◌+◌, ◌*◌, ◌%◌, ◌^◌, ◌≤◌, ◌<◌}
+use Prim.Native.Nat.{ℕ, zero, suc, ◌+◌, ◌*◌, ◌%◌, ◌^◌, ◌≤◌, ◌<◌}
 use native.Mathlib.Nat.{lt_of_lt_of_le}
 use native.Mathlib.Numerals.{add-one}
 use native.Mathlib.Omega.{arith}
 use borrow.Author.Tests.{le-leb, lt-leb}
 use lib.Bits.{bit_or, or_lt, or_add_and, and_le_l, and_le_r}
 use lib.Dec.{eqb, leb, ltb}
-use lib.ListN.{length, get_or}
+use lib.ListN.{length, get_or, take}
 use lib.Pow.{pow_pos, pow_mono}
+use Rattle.std.specs.List.{fold}
+use Rattle.std.proofs.lemmas.List.{take_all}
+use Rattle.std.proofs.lemmas.List.Sums.{fold_more}
 use Rattle.bits.specs.Bits.{some, Below}
 use Rattle.bits.proofs.TestLaws.{clash, lt_or_le, ltb_not, and_left}
 use Rattle.bits.proofs.BoundLaws.{some_none}
@@ -34,21 +37,20 @@ or_reaches n a b = go (lt_or_le a (2 ^ n)) (lt_or_le b (2 ^ n))
     go (inl h) (inr k) = rw (lt-leb (2 ^ n) a h, le-leb (2 ^ n) b k) (le-leb (2 ^ n) (bit_or a b) (omega (arith, or_add_and a b, and_le_l a b)))
     go (inr h) k = rw (le-leb (2 ^ n) a h) (le-leb (2 ^ n) (bit_or a b) (omega (arith, or_add_and a b, and_le_r a b)))
 
--- the words below i joined have one exactly if one of them has
-abbrev pub Joined : List ℕ → ℕ → ℕ → Type 0
-Joined ws i all = (n : ℕ) → leb (2 ^ n) all ≡ some i (λ k. leb (2 ^ n) (get_or ws k 0))
+-- all words joined have one exactly if one of them has: of the words below i, one word more at a time
+module _ (n : ℕ) (ws : List ℕ) where
+  front_reaches : (i : ℕ) → i ≤ length ws → leb (2 ^ n) (fold (λ all w. bit_or w all) 0 (take i ws)) ≡ some i (λ k. leb (2 ^ n) (get_or ws k 0))
+  unfolding some
+  front_reaches zero l = lt-leb (2 ^ n) 0 (pow_pos n)
+  front_reaches (suc i) l =
+      let f : ℕ → ℕ → ℕ = λ all w. bit_or w all in
+      let more : fold f 0 (take (suc i) ws) ≡ f (fold f 0 (take i ws)) (get_or ws i 0) = rw add-one at (fold_more f 0 ws i 0 l) in
+      ap (leb (2 ^ n)) more
+      ∙ (or_reaches n (get_or ws i 0) (fold f 0 (take i ws)) ∙ ap (λ t. leb (2 ^ n) (get_or ws i 0) || t) (front_reaches i (omega arith)))
 
-pub join_none : (ws : List ℕ) → Joined ws 0 0
-unfolding some
-join_none ws n = lt-leb (2 ^ n) 0 (pow_pos n)
-
-pub join_more : (ws : List ℕ) (i all : ℕ) → Joined ws i all → Joined ws (i + 1) (bit_or (get_or ws i 0) all)
-unfolding some
-join_more ws i all h n = or_reaches n (get_or ws i 0) all ∙ rw (add-one, h n)
-
-pub join_done : (ws : List ℕ) (i all : ℕ) → i ≡ length ws → Joined ws i all → (n : ℕ) → leb (2 ^ n) all ≡ past n ws
-unfolding past
-join_done ws i all e h n = h n ∙ ap (λ k. some k (λ i. leb (2 ^ n) (get_or ws i 0))) e
+  pub joined_reaches : leb (2 ^ n) (fold (λ all w. bit_or w all) 0 ws) ≡ past n ws
+  unfolding past
+  joined_reaches = ap (λ xs. leb (2 ^ n) (fold (λ all w. bit_or w all) 0 xs)) (sym (take_all (length ws) ws (omega arith))) ∙ front_reaches (length ws) (omega arith)
 
 -- the words below i of three lists joined have one exactly if one of them has
 abbrev pub JoinedThree : List ℕ → List ℕ → List ℕ → ℕ → ℕ → Type 0
@@ -60,23 +62,29 @@ unfolding some
 three_none xs ys zs n = lt-leb (2 ^ n) 0 (pow_pos n)
 
 -- each of three with its own
-apart : (a b c x y z : Bool) → (a || b) || (c || (x || (y || z))) ≡ (a || x) || ((b || y) || (c || z))
-apart true b c x y z = refl
-apart false true c true y z = refl
-apart false true c false y z = refl
-apart false false true true y z = refl
-apart false false true false true z = refl
-apart false false true false false z = refl
-apart false false false x y z = refl
+apart : (a b c x y z : Bool) → (x || (y || z)) || ((a || b) || c) ≡ (a || x) || ((b || y) || (c || z))
+apart true b c true y z = refl
+apart true b c false true z = refl
+apart true b c false false true = refl
+apart true b c false false false = refl
+apart false b c true y z = refl
+apart false true c false true z = refl
+apart false true c false false true = refl
+apart false true c false false false = refl
+apart false false c false true z = refl
+apart false false true false false true = refl
+apart false false false false false true = refl
+apart false false true false false false = refl
+apart false false false false false false = refl
 
 pub three_more : (xs ys zs : List ℕ) (i all : ℕ) → JoinedThree xs ys zs i all
-    → JoinedThree xs ys zs (i + 1) (bit_or (bit_or (get_or xs i 0) (get_or ys i 0)) (bit_or (get_or zs i 0) all))
+    → JoinedThree xs ys zs (i + 1) (bit_or all (bit_or (bit_or (get_or xs i 0) (get_or ys i 0)) (get_or zs i 0)))
 unfolding some
 three_more xs ys zs i all h n =
     let a = get_or xs i 0 in
     let b = get_or ys i 0 in
     let c = get_or zs i 0 in
-    or_reaches n (bit_or a b) (bit_or c all) ∙ ap₂ ◌||◌ (or_reaches n a b) (or_reaches n c all ∙ ap (λ t. leb (2 ^ n) c || t) (h n))
+    or_reaches n all (bit_or (bit_or a b) c) ∙ ap₂ ◌||◌ (h n) (or_reaches n (bit_or a b) c ∙ ap (λ t. t || leb (2 ^ n) c) (or_reaches n a b))
     ∙ apart (leb (2 ^ n) a) (leb (2 ^ n) b) (leb (2 ^ n) c) (some i (λ k. leb (2 ^ n) (get_or xs k 0))) (some i (λ k. leb (2 ^ n) (get_or ys k 0))) (some i (λ k. leb (2 ^ n) (get_or zs k 0))) ∙ rw add-one
 
 pub three_done : (xs ys zs : List ℕ) (i all : ℕ) → i ≡ length xs → length ys ≡ length xs → length zs ≡ length xs → JoinedThree xs ys zs i all
@@ -108,16 +116,18 @@ past_judged n all t l h = ap (ltb all) (one_shl n l) ∙ ltb_not all (2 ^ n) ∙
 
 -- ---- numbers and lengths
 
+-- in range they add up to few
+pub sum_few : (m n k : ℕ) → in_range m n k ≡ true → m + n ≤ 128
+sum_few m n k h = let r = (in_range_lem m n k).0 h in omega (arith, r.rows.1, r.columns.1)
+
 module _ (m n k counters : ℕ) (words : Bool) where
   pub out_of_range : in_range m n k ≡ false → 1 ≡ judged m n k counters words
   unfolding judged
   out_of_range h = rw h
 
-  pub in_range_by : in_range m n k ≡ true → cond (words && fit k (m + n) counters) 0 2 ≡ judged m n k counters words
+  pub in_range_by : in_range m n k ≡ true → (f : Bool) → f ≡ fit k (m + n) counters → (t : Bool) → words && f ≡ t → cond t 0 2 ≡ judged m n k counters words
   unfolding judged counters_sized fit
-  in_range_by h =
-      let r = (in_range_lem m n k).0 h in
-      rw (h, le-leb (m + n) 128 (omega (arith, r.rows.1, r.columns.1)))
+  in_range_by h f e t d = rw (← d, e, h, le-leb (m + n) 128 (sum_few m n k h))
 
 -- ---- a conversion
 
@@ -134,8 +144,7 @@ module _ (m n k k' counters out : ℕ) where
   pub target_passes : in_range m n k' && leb k k' ≡ true → judged m n k counters (fit k' (m + n) out) ≡ convert_judged m n k k' counters out
   unfolding judged convert_in_range convert_sized counters_sized fit
   target_passes h =
-      let r = (in_range_lem m n k').0 (and_left (in_range m n k') (leb k k') h) in
-      rw (le-leb (m + n) 128 (omega (arith, r.rows.1, r.columns.1)))
+      rw (le-leb (m + n) 128 (sum_few m n k' (and_left (in_range m n k') (leb k k') h)))
       (passes (in_range m n k) (in_range m n k') (leb k k') (eqb out (bytes_for (width k') (m + n))) (eqb counters (bytes_for (width k) (m + n))) h)
     where
       passes : (a b c x y : Bool) → b && c ≡ true → cond (not a) 1 (cond {A = ℕ} (x && y) 0 2) ≡ cond (not ((a && b) && c)) 1 (cond (y && x) 0 2)

@@ -2,41 +2,43 @@
 #![tactic(auto)]
 
 ghost use Rattle.std.specs.Prelude.{◌≡◌, not, ◌&&◌, ◌||◌, ℕ, ◌^◌, leb, length};
+ghost use Rattle.refusals.specs.Numbers.{number_of};
 ghost use Rattle.grid_promises.specs.Calls.{past};
 ghost use Rattle.grid_checks.specs.Numbers.{judged, read_judged, plan_judged, store_judged, convert_judged};
 
-use refusals::{ACCEPTED, OUT_OF_RANGE, WRONG_LENGTH};
+use refusals::Refusal;
 
-// The refusal of numbers and lengths, 1 or 2, or else 0. `words` says whether every buffer of words has as many as there are rows.
-fn number(rows: usize, columns: usize, k: usize, counters: usize, words: bool) -> usize
-    ensures { result ≡ judged rows columns k counters words }
+// Numbers that are out of range, or else lengths that are not right, are refused. `words` says whether every buffer of words has as many as there are rows: a
+// test, since `judged` is handed one. Here and below numbers and lengths come one by one, in the order of the definitions.
+fn judge(rows: usize, columns: usize, k: usize, counters: usize, words: bool) -> Result<(), Refusal>
+    ensures { number_of result ≡ judged rows columns k counters words }
 {
     if !grid_sizes::in_range(rows, columns, k) {
-        return OUT_OF_RANGE;
+        return Err(Refusal::OutOfRange);
     }
     if words & grid_sizes::fits(k, rows + columns, counters) {
-        ACCEPTED
+        Ok(())
     } else {
-        WRONG_LENGTH
+        Err(Refusal::WrongLength)
     }
 }
 
-// The refusal of a read's numbers and lengths, 1 or 2, or else 0.
-pub fn read_number(
+// The numbers and lengths of a read.
+pub fn judge_read(
     rows: usize,
     columns: usize,
     k: usize,
     cells: usize,
     counters: usize,
     out: usize,
-) -> usize
-    ensures { result ≡ read_judged rows columns k cells counters out }
+) -> Result<(), Refusal>
+    ensures { number_of result ≡ read_judged rows columns k cells counters out }
 {
-    number(rows, columns, k, counters, (cells == rows) & (out == rows))
+    judge(rows, columns, k, counters, (cells == rows) & (out == rows))
 }
 
-// The same for a plan.
-pub fn plan_number(
+// Those of a plan.
+pub fn judge_plan(
     rows: usize,
     columns: usize,
     k: usize,
@@ -44,15 +46,15 @@ pub fn plan_number(
     mask: usize,
     values: usize,
     counters: usize,
-) -> usize
-    ensures { result ≡ plan_judged rows columns k «data» mask values counters }
+) -> Result<(), Refusal>
+    ensures { number_of result ≡ plan_judged rows columns k «data» mask values counters }
 {
     let words = (data == rows) & ((mask == rows) & (values == rows));
-    number(rows, columns, k, counters, words)
+    judge(rows, columns, k, counters, words)
 }
 
-// The same for a store.
-pub fn store_number(
+// Those of a store.
+pub fn judge_store(
     rows: usize,
     columns: usize,
     k: usize,
@@ -61,42 +63,36 @@ pub fn store_number(
     values: usize,
     counters: usize,
     cells: usize,
-) -> usize
-    ensures { result ≡ store_judged rows columns k «data» mask values counters cells }
+) -> Result<(), Refusal>
+    ensures { number_of result ≡ store_judged rows columns k «data» mask values counters cells }
 {
     let words = (data == rows) & ((mask == rows) & (values == rows));
-    number(rows, columns, k, counters, words & (cells == rows))
+    judge(rows, columns, k, counters, words & (cells == rows))
 }
 
-// The same for a conversion: the block is judged at the target too. Sizes first: `rows + columns` of any might overflow.
-pub fn convert_number(
+// Those of a conversion: the block is judged at the target too. Sizes first: `rows + columns` of any might overflow.
+pub fn judge_convert(
     rows: usize,
     columns: usize,
     k: usize,
     to: usize,
     counters: usize,
     out: usize,
-) -> usize
-    ensures { result ≡ convert_judged rows columns k to counters out }
+) -> Result<(), Refusal>
+    ensures { number_of result ≡ convert_judged rows columns k to counters out }
 {
     if !(grid_sizes::in_range(rows, columns, to) & (k <= to)) {
-        return OUT_OF_RANGE;
+        return Err(Refusal::OutOfRange);
     }
     let room = grid_sizes::fits(to, rows + columns, out);
-    number(rows, columns, k, counters, room)
+    judge(rows, columns, k, counters, room)
 }
 
 // The OR of all words: it has a bit past a column exactly if a word has.
 fn joined(words: &[u64]) -> u64
     ensures { (n : ℕ) → leb (2 ^ n) result ≡ past n words.now }
 {
-    let mut all = 0;
-    let mut i = 0;
-    while i < words.len() {
-        all = words[i] | all;
-        i += 1;
-    }
-    all
+    words.iter().fold(0, |all, word| word | all)
 }
 
 // No word has a bit past the last column. Where every bit has a column, none is looked at.
@@ -106,16 +102,15 @@ pub fn within(words: &[u64], columns: usize) -> bool
     columns >= words::BITS || joined(words) < 1 << columns
 }
 
-// The OR of the words of three buffers of one length, in one pass.
+// The OR of the words of three buffers of one length, in one pass. Apart from `joined`, for speed: three passes take longer.
 fn joined_in_one_pass(data: &[u64], mask: &[u64], values: &[u64]) -> u64
-    requires { (length mask.now ≡ length «data».now) × (length values.now ≡ length «data».now) }
+    requires masks { length mask.now ≡ length «data».now }
+    requires stuck_at { length values.now ≡ length «data».now }
     ensures { (n : ℕ) → leb (2 ^ n) result ≡ (past n «data».now || (past n mask.now || past n values.now)) }
 {
     let mut all = 0;
-    let mut i = 0;
-    while i < data.len() {
-        all = (data[i] | mask[i]) | (values[i] | all);
-        i += 1;
+    for i in 0..data.len() {
+        all |= data[i] | mask[i] | values[i];
     }
     all
 }
@@ -130,7 +125,7 @@ fn joined_three(data: &[u64], mask: &[u64], values: &[u64]) -> u64
     joined(data) | (joined(mask) | joined(values))
 }
 
-// None of the three has such a word.
+// None of the three has a bit past the last column. Three slices of any lengths: the `Rows` of a plan or a store are made in crates above this one.
 pub fn all_within(data: &[u64], mask: &[u64], values: &[u64], columns: usize) -> bool
     ensures { result ≡ not (past columns «data».now || (past columns mask.now || past columns values.now)) }
 {

@@ -1,27 +1,22 @@
--- Laws of counters of three bits: their planes from bytes, and the sets of their lines. Assumes nothing.
-use Prim.Native.Nat.{ℕ, zero, suc, ◌+◌, ◌-◌, ◌*◌, ◌/◌, ◌%◌, ◌^◌, ◌≤◌, ◌<◌}
-use mathlib.Core.Path.{◌≡◌, refl, sym, ap, ap₂, ◌∙◌}
-use mathlib.Core.Bool.{Bool, false, ◌&&◌, ◌||◌}
-use mathlib.Core.List.{List, [], ◌∷◌}
+-- Laws of counters of three bits: their planes from bytes. Assumes nothing.
+use Prim.Native.Nat.{ℕ, ◌+◌, ◌-◌, ◌*◌, ◌/◌, ◌%◌, ◌^◌, ◌≤◌, ◌<◌}
+use mathlib.Core.Path.{◌≡◌, sym, ap, ◌∙◌}
+use mathlib.Core.Bool.{Bool, false}
+use mathlib.Core.List.{List}
 use mathlib.Core.Logic.{⊎_elim}
 use native.Mathlib.Nat.{zero-div}
 use native.Mathlib.Omega.{arith}
-use lib.Bits.{bit_and, bit_or, or_lt, and_lt, or_add_and, and_le_l, and_le_r}
-use lib.Dec.{ltb, lit<, lit≤}
-use lib.ListN.{get_or}
+use lib.Bits.{bit_or, or_add_and, and_le_l, and_le_r}
+use lib.Dec.{lit<, lit≤}
 use lib.Pow.{pow_pos}
-use Rattle.bits.specs.Bits.{list, number, has, word, words}
+use Rattle.bits.specs.Bits.{Below, number_at, number, has, word}
 use Rattle.bits.proofs.TestLaws.{lt_or_le}
-use Rattle.bits.proofs.BitLaws.{has_and, has_or, has_zero, has_low, has_shr, has_word, is_word, word_lt, word_ext}
+use Rattle.bits.proofs.BitLaws.{has_zero, has_shr, is_word, word_ext}
 use Rattle.rdis.specs.Packing.{counter}
-use Rattle.grid_sets.specs.Sets.{sets_of}
-use Rattle.grid_sets.specs.declared.Planes.{Planes}
-use Rattle.grid_sets.specs.Planes.{AreBits, AreThrees}
+use Rattle.grid_sets.specs.Planes.{AreThrees}
 use Rattle.grid_counters.specs.Steps.{FromThirds, FromFour}
 use Rattle.words.proofs.ShiftLaws.{joined, joined_short}
 use Rattle.grid_counters.proofs.ReadingLaws.{Bits, from_byte, at_place}
-
--- ---- from bytes
 
 -- 16 bits and 16 bits, side by side
 pub thirds_joined : (x y a b : ℕ) → a ≡ word 16 (λ i. has x (3 * i)) → b ≡ word 16 (λ i. has y (3 * i)) → (f : ℕ → Bool) → FromThirds x f → FromThirds y (λ i. f (16 + i))
@@ -64,13 +59,13 @@ none_of_four a b c d za zb zc zd f ha hb hc hd = is_word 64 0 f (pow_pos 64) (λ
     at i l = ⊎_elim (none a f za ha i) (λ p. ⊎_elim (there 16 i b zb hb p) (λ q. ⊎_elim (there 32 i c zc hc q) (λ r. there 48 i d zd hd r (omega arith)) (lt_or_le i 48)) (lt_or_le i 32)) (lt_or_le i 16)
 
 -- four words that have the bits of 16 counters each; the last is loaded two bytes early
-module _ (t q : ℕ) (bs : List ℕ) (h : 8 * q ≡ 3 * t) (a b c d : ℕ) (ea : a ≡ number 256 bs / 2 ^ (8 * q) % 2 ^ 64) (eb : b ≡ number 256 bs / 2 ^ (8 * (q + 6)) % 2 ^ 64)
-    (ec : c ≡ number 256 bs / 2 ^ (8 * (q + 12)) % 2 ^ 64) (ed : d ≡ number 256 bs / 2 ^ (8 * (q + 16)) % 2 ^ 64) where
-  loaded_group : (p x : ℕ) → x ≡ number 256 bs / 2 ^ (8 * p) % 2 ^ 64 → Bits (8 * p) 48 bs x
-  loaded_group p x e j l = from_byte p x bs e j (omega arith)
+module _ (t q : ℕ) (bs : List ℕ) (small : Below 256 bs) (h : 8 * q ≡ 3 * t) (a b c d : ℕ) (ea : a ≡ number_at bs q 8) (eb : b ≡ number_at bs (q + 6) 8)
+    (ec : c ≡ number_at bs (q + 12) 8) (ed : d ≡ number_at bs (q + 16) 8) where
+  loaded_group : (p x : ℕ) → x ≡ number_at bs p 8 → Bits (8 * p) 48 bs x
+  loaded_group p x e j l = from_byte p x bs small e j (omega arith)
 
   last_group : Bits (8 * (q + 16) + 16) 48 bs (d / 2 ^ 16)
-  last_group j l = let e : 8 * (q + 16) + (16 + j) ≡ 8 * (q + 16) + 16 + j = omega arith in has_shr d 16 j ∙ from_byte (q + 16) d bs ed (16 + j) (omega arith) ∙ ap (has (number 256 bs)) e
+  last_group j l = let e : 8 * (q + 16) + (16 + j) ≡ 8 * (q + 16) + 16 + j = omega arith in has_shr d 16 j ∙ from_byte (q + 16) d bs small ed (16 + j) (omega arith) ∙ ap (has (number 256 bs)) e
 
   triple_plane : (k u v w x r : ℕ) → k < 3 → ((j : ℕ) → has u j ≡ has a (k + j)) → ((j : ℕ) → has v j ≡ has b (k + j)) → ((j : ℕ) → has w j ≡ has c (k + j))
       → ((j : ℕ) → has x j ≡ has (d / 2 ^ 16) (k + j)) → FromFour u v w x r → r ≡ word 64 (λ i. has (counter 3 bs (t + i)) k)
@@ -101,71 +96,3 @@ module _ (t q : ℕ) (bs : List ℕ) (h : 8 * q ≡ 3 * t) (a b c d : ℕ) (ea :
       triple_planes 0 0 0 (none_of_four a b c (d / 2 ^ 16) za zb zc zd)
       (none_of_four _ _ _ _ (shifted a 1 za) (shifted b 1 zb) (shifted c 1 zc) (shifted (d / 2 ^ 16) 1 zd))
       (none_of_four _ _ _ _ (shifted a 2 za) (shifted b 2 zb) (shifted c 2 zc) (shifted (d / 2 ^ 16) 2 zd))
-
--- ---- sets
-
--- the two lower bits are those of the remainder by 4
-pub low_bits : (n : ℕ) (f : ℕ → ℕ) (p : Planes) → AreBits n f p → AreBits n (λ i. f i % 4) p
-low_bits n f p b = record { lower = b.lower ∙ same 0 (lit< tt); higher = b.higher ∙ same 1 (lit< tt) }
-  where
-    same : (q : ℕ) → q < 2 → word n (λ i. has (f i) q) ≡ word n (λ i. has (f i % 4) q)
-    same q h = word_ext n _ _ (λ i _. sym (has_low 2 (f i) q h))
-
--- which numbers a number below 8 is above, by its remainder and its third bit
-record Above (x : ℕ) : Type 0 where
-  s0 : ltb 0 (x % 4) || has x 2 ≡ ltb 0 x
-  s1 : ltb 1 (x % 4) || has x 2 ≡ ltb 1 x
-  s2 : ltb 2 (x % 4) || has x 2 ≡ ltb 2 x
-  s3 : has x 2 ≡ ltb 3 x
-  s4 : ltb 0 (x % 4) && has x 2 ≡ ltb 4 x
-  s5 : ltb 1 (x % 4) && has x 2 ≡ ltb 5 x
-  s6 : ltb 2 (x % 4) && has x 2 ≡ ltb 6 x
-  s7 : false ≡ ltb 7 x
-
-above_eight : (x : ℕ) → x < 8 → Above x
-unfolding has
-above_eight zero h = record { s0 = refl; s1 = refl; s2 = refl; s3 = refl; s4 = refl; s5 = refl; s6 = refl; s7 = refl }
-above_eight (suc zero) h = record { s0 = refl; s1 = refl; s2 = refl; s3 = refl; s4 = refl; s5 = refl; s6 = refl; s7 = refl }
-above_eight (suc (suc zero)) h = record { s0 = refl; s1 = refl; s2 = refl; s3 = refl; s4 = refl; s5 = refl; s6 = refl; s7 = refl }
-above_eight (suc (suc (suc zero))) h = record { s0 = refl; s1 = refl; s2 = refl; s3 = refl; s4 = refl; s5 = refl; s6 = refl; s7 = refl }
-above_eight (suc (suc (suc (suc zero)))) h = record { s0 = refl; s1 = refl; s2 = refl; s3 = refl; s4 = refl; s5 = refl; s6 = refl; s7 = refl }
-above_eight (suc (suc (suc (suc (suc zero))))) h = record { s0 = refl; s1 = refl; s2 = refl; s3 = refl; s4 = refl; s5 = refl; s6 = refl; s7 = refl }
-above_eight (suc (suc (suc (suc (suc (suc zero)))))) h = record { s0 = refl; s1 = refl; s2 = refl; s3 = refl; s4 = refl; s5 = refl; s6 = refl; s7 = refl }
-above_eight (suc (suc (suc (suc (suc (suc (suc zero))))))) h = record { s0 = refl; s1 = refl; s2 = refl; s3 = refl; s4 = refl; s5 = refl; s6 = refl; s7 = refl }
-above_eight (suc (suc (suc (suc (suc (suc (suc (suc x)))))))) h = absurd (omega arith)
-
-module _ (n : ℕ) (f : ℕ → ℕ) (few : (t : ℕ) → f t < 8) where
-  abbrev over : ℕ → ℕ → Bool
-  over s i = ltb s (f i)
-
-  abbrev low : ℕ → ℕ
-  low s = word n (λ i. ltb s (f i % 4))
-
-  abbrev high : ℕ
-  high = word n (λ i. has (f i) 2)
-
-  at_line : (i : ℕ) → Above (f i)
-  at_line i = above_eight (f i) (few i)
-
-  -- a set of the lower bits joined with the third ones, or met with them
-  with_top : (s u : ℕ) → ((i : ℕ) → ltb s (f i % 4) || has (f i) 2 ≡ over u i) → bit_or (low s) high ≡ word n (over u)
-  with_top s u h =
-      is_word n (bit_or (low s) high) (over u) (or_lt n (low s) high (word_lt n _) (word_lt n _))
-      (λ i l. has_or (low s) high i ∙ ap₂ ◌||◌ (has_word n (λ i. ltb s (f i % 4)) i l) (has_word n (λ i. has (f i) 2) i l) ∙ h i)
-
-  in_top : (s u : ℕ) → ((i : ℕ) → ltb s (f i % 4) && has (f i) 2 ≡ over u i) → bit_and (low s) high ≡ word n (over u)
-  in_top s u h =
-      is_word n (bit_and (low s) high) (over u) (and_lt n (low s) high (word_lt n _) (word_lt n _))
-      (λ i l. has_and (low s) high i ∙ ap₂ ◌&&◌ (has_word n (λ i. ltb s (f i % 4)) i l) (has_word n (λ i. has (f i) 2) i l) ∙ h i)
-
-  pub raised_are : (sets : List ℕ) (top : ℕ) → sets ≡ sets_of n (λ i. f i % 4) → top ≡ word n (λ i. has (f i) 2)
-      → ◌≡◌ {A = List ℕ} (bit_or (get_or sets 0 0) top ∷ (bit_or (get_or sets 1 0) top ∷ (bit_or (get_or sets 2 0) top ∷ (top ∷
-      (bit_and (get_or sets 0 0) top ∷ (bit_and (get_or sets 1 0) top ∷ (bit_and (get_or sets 2 0) top ∷ (0 ∷ [])))))))) (sets_of n f)
-  unfolding sets_of words list
-  raised_are sets top e g =
-      let e3 = word_ext n (λ i. has (f i) 2) (over 3) (λ i _. (at_line i).s3) in
-      let e7 = is_word n 0 (over 7) (pow_pos n) (λ i _. has_zero i ∙ (at_line i).s7) in
-      (λ t. bit_or (get_or (e t) 0 0) (g t) ∷ (bit_or (get_or (e t) 1 0) (g t) ∷ (bit_or (get_or (e t) 2 0) (g t) ∷ (g t ∷
-      (bit_and (get_or (e t) 0 0) (g t) ∷ (bit_and (get_or (e t) 1 0) (g t) ∷ (bit_and (get_or (e t) 2 0) (g t) ∷ (0 ∷ []))))))))
-      ∙ (λ t. with_top 0 0 (λ i. (at_line i).s0) t ∷ (with_top 1 1 (λ i. (at_line i).s1) t ∷ (with_top 2 2 (λ i. (at_line i).s2) t ∷ (e3 t ∷
-      (in_top 0 4 (λ i. (at_line i).s4) t ∷ (in_top 1 5 (λ i. (at_line i).s5) t ∷ (in_top 2 6 (λ i. (at_line i).s6) t ∷ (e7 t ∷ []))))))))

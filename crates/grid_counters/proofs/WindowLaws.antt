@@ -1,8 +1,8 @@
--- Laws of the width of counters, of a part of a number's digits, and of the bits past the last counter. Assumes nothing.
+-- Laws of a part of a number's digits, and of the bits past the last counter. Assumes nothing.
 use mathlib.Core.Path.{◌≡◌, refl, sym, ap, ◌∙◌}
 use mathlib.Core.List.{List, [], ◌∷◌}
 use Prim.Native.Nat.{ℕ, zero, suc, ◌+◌, ◌*◌, ◌/◌, ◌%◌, ◌^◌, ◌-◌, ◌<◌, ◌≤◌}
-use native.Mathlib.Nat.{pow-zero, pow-suc, div-lt_iff_lt-mul, mul-le-mul, mul_assoc, mul-add-mod_self_right, zero-mul, add-mul, one-mul, div-eq_of_lt, mul-one, div-add-mod}
+use native.Mathlib.Nat.{pow-zero, pow-suc, div-lt_iff_lt-mul, mul_assoc, mul-add-mod_self_right, zero-mul, add-mul, one-mul, div-eq_of_lt, mul-one, div-add-mod}
 use native.Mathlib.Omega.{arith}
 use native.Mathlib.Decide.{dec_lt}
 use borrow.Author.Tests.{eq-eqb, ne_eqb, lt-ltb, le-ltb}
@@ -12,11 +12,6 @@ use lib.Pow.{pow_pos, pow-add, shr-shr, field}
 use Rattle.bits.specs.Bits.{number, Below}
 use Rattle.bits.proofs.DigitLaws.{number_drop, number_step, pow_mul}
 use Rattle.rdis.specs.Packing.{bytes_for, spare_clear}
-
--- ---- small numbers
-
-pub small : (w t : ℕ) → w ≤ 8 → t ≤ 128 → w * t ≤ 1024
-small w t h k = mul-le-mul h k
 
 -- ---- a window of digits
 

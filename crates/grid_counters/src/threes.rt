@@ -1,17 +1,14 @@
-// Counters of three bits, which lie over the ends of bytes: their planes from bytes, and the sets of their lines.
-ghost use Rattle.std.specs.Prelude.{◌≡◌, Bool, ℕ, ◌+◌, ◌*◌, ◌%◌, ◌≤◌, ◌<◌};
+// Counters of three bits, which lie over the ends of bytes: their planes from bytes.
+ghost use Rattle.std.specs.Prelude.{◌≡◌, Bool, ℕ, ◌+◌, ◌*◌};
 ghost use Rattle.bits.specs.Bits.{has, word};
-ghost use Rattle.rdis.specs.Packing.{counter};
-ghost use Rattle.grid_sets.specs.Sets.{sets_of};
-ghost use Rattle.grid_sets.specs.Planes.{AreThrees};
 ghost use Rattle.grid_counters.specs.Steps.{FromThirds, FromFour};
 
-use crate::planes::{cut, load, sets};
-use grid_sets::{LEVELS, Planes, Threes};
+use crate::read::Read;
+use grid_sets::{Planes, Threes};
+use words::load;
 
-// ---- from bytes
-
-// The 16 bits at every third place of 48, side by side. In a block with few faults most of them are 0.
+// The 16 bits at every third place of 48, side by side. In a block with few faults most of them are 0. It has other masks and a step fewer than `seconds`: no
+// argument of one function says both as plainly.
 fn thirds(v: u64) -> u64
     ensures { result ≡ word 16 (λ i. has v (3 * i)) }
 {
@@ -25,7 +22,7 @@ fn thirds(v: u64) -> u64
     0xffff & (d | (d >> 16))
 }
 
-// Those of two words.
+// The bits at every third place of two words, as `plane` puts together those at the even places.
 fn thirds_of_two(first: u64, second: u64) -> u64
     ensures { (f : ℕ → Bool) → FromThirds first f → FromThirds second (λ i. f (16 + i)) → result ≡ word 32 f }
 {
@@ -39,56 +36,28 @@ fn third_plane(a: u64, b: u64, c: u64, d: u64) -> u64
     (thirds_of_two(c, d) << 32) | thirds_of_two(a, b)
 }
 
-// The planes of the 64 counters in the 24 bytes from byte `q` on. 16 counters are 6 bytes, and no load goes past the last. In a block without faults all are 0.
-pub fn threes_from(bytes: &[u8], q: usize) -> Threes
-    requires { q ≤ 24 }
-    ensures { (t : ℕ) → 8 * q ≡ 3 * t → AreThrees 64 (λ i. counter 3 bytes.now (t + i)) result }
-{
-    let a = load(bytes, q);
-    let b = load(bytes, q + 6);
-    let c = load(bytes, q + 12);
-    let d = load(bytes, q + 16) >> 16;
-    if (a | b) | (c | d) == 0 {
-        return Threes {
-            planes: Planes { low: 0, high: 0 },
-            top: 0,
-        };
+impl Read for Threes {
+    ghost takes = { λ width. width ≡ 3 };
+
+    // 16 counters are 6 bytes, and no load goes past the last. In a block without faults all are 0.
+    fn read(bytes: &[u8], _width: usize, first: usize) -> Threes {
+        let q = first / 8 * 3;
+        let a = load(bytes, q);
+        let b = load(bytes, q + 6);
+        let c = load(bytes, q + 12);
+        let d = load(bytes, q + 16) >> 16;
+        if (a | b) | (c | d) == 0 {
+            return Threes {
+                planes: Planes { low: 0, high: 0 },
+                top: 0,
+            };
+        }
+        Threes {
+            planes: Planes {
+                low: third_plane(a, b, c, d),
+                high: third_plane(a >> 1, b >> 1, c >> 1, d >> 1),
+            },
+            top: third_plane(a >> 2, b >> 2, c >> 2, d >> 2),
+        }
     }
-    Threes {
-        planes: Planes {
-            low: third_plane(a, b, c, d),
-            high: third_plane(a >> 1, b >> 1, c >> 1, d >> 1),
-        },
-        top: third_plane(a >> 2, b >> 2, c >> 2, d >> 2),
-    }
-}
-
-// ---- sets
-
-// The sets of counters, by those of their two lower bits and by their third.
-pub fn raised(low: &[u64; LEVELS], top: u64) -> [u64; LEVELS]
-    ensures { (n : ℕ) (f : ℕ → ℕ) → ((t : ℕ) → f t < 8) → low.now ≡ sets_of n (λ i. f i % 4) → top ≡ word n (λ i. has (f i) 2) → result ≡ sets_of n f }
-{
-    let one = low[0];
-    let two = low[1];
-    let three = low[2];
-    [
-        one | top,
-        two | top,
-        three | top,
-        top,
-        one & top,
-        two & top,
-        three & top,
-        0,
-    ]
-}
-
-// The sets of the `n` counters from counter `at` on, of 128 whose planes these are.
-pub fn sets_of_threes(a: Threes, b: Threes, at: usize, n: usize) -> [u64; LEVELS]
-    requires { (at ≤ 64) × (n ≤ 64) }
-    ensures { (f : ℕ → ℕ) → ((t : ℕ) → f t < 8) → AreThrees 64 f a → AreThrees 64 (λ i. f (64 + i)) b → result ≡ sets_of n (λ i. f (at + i)) }
-{
-    let low = sets(a.planes, b.planes, at, n);
-    raised(&low, cut(a.top, b.top, at, n))
 }

@@ -1,24 +1,23 @@
 -- Laws of the counts of stuck cells: sums over the rows that hold one, of which some are left. Assumes nothing.
-use Prim.Native.Nat.{ℕ, zero, suc, ◌+◌, ◌-◌, ◌*◌, ◌^◌, ◌≤◌, ◌<◌}
+use Prim.Native.Nat.{ℕ, zero, suc, ◌+◌, ◌*◌, ◌^◌, ◌≤◌, ◌<◌}
 use mathlib.Core.Path.{◌≡◌, refl, sym, ap, ◌∙◌}
 use mathlib.Core.Bool.{Bool, true, false, not, xor, cond, ◌&&◌, and-true}
 use mathlib.Core.List.{List}
-use mathlib.Core.Logic.{◌≢◌}
-use native.Mathlib.Nat.{lt_of_le_of_lt, lt_of_lt_of_le}
+use native.Mathlib.Nat.{lt_trans}
 use native.Mathlib.Omega.{arith}
 use borrow.Author.Tests.{eqb-true, ne_eqb, not-false}
-use lib.Bits.{bit_and, and_le_l}
-use lib.Count.{ones, ones_in, ones-le, count_trailing_zeros}
+use lib.Count.{ones, ones_in, ones-le}
 use lib.Dec.{eqb}
 use lib.ListN.{length, get_or}
-use lib.Pow.{pow_mono}
 use Rattle.bits.specs.Bits.{num, sum, has, word, Below}
 use Rattle.bits.proofs.TestLaws.{clash, eqb_same}
 use Rattle.bits.proofs.BoundLaws.{sum_ext, sum_none, sum_raise}
-use Rattle.bits.proofs.BitLaws.{has_zero, has_high, has_word, word_lt, none_high, ones_bits, lowest_set, lowest_below, clear_lowest}
+use Rattle.bits.proofs.BitLaws.{has_zero, has_high, has_word, word_lt, none_high, ones_bits}
 use Rattle.rdis.specs.Block as Block
 use Rattle.rdis.specs.Block.{faulty, count, faulty_cells, faults}
 use Rattle.rdis.proofs.CountLaws.{faults_are_cells, two_kinds}
+use Rattle.words.specs.SetBits.{TakesLowest}
+use Rattle.words.proofs.SetBitsLaws.{place_below}
 use Rattle.grid_levels.specs.Steps.{block_of, Accepts, answer_of}
 
 -- ---- sums over the rows of a set
@@ -45,13 +44,12 @@ once : (t : Bool) (x : ℕ) → t ≡ true → cond t x 0 ≡ x + cond (t && not
 once true x h = omega arith
 once false x h = clash h refl
 
-left_next : (n rest : ℕ) (f : ℕ → ℕ) → rest < 2 ^ 64 → rest ≢ 0 → count_trailing_zeros 64 rest < n → left n rest f ≡ f (count_trailing_zeros 64 rest) + left n (bit_and rest (rest - 1)) f
+left_next : (n rest i y : ℕ) (f : ℕ → ℕ) → i < n → TakesLowest rest i y → left n rest f ≡ f i + left n y f
 unfolding left
-left_next n rest f small some l =
-    let t = count_trailing_zeros 64 rest in
-    sum_raise n _ _ t (f t) l
-    (rw (clear_lowest 64 rest t small some, eqb_same t) (once (has rest t) (f t) (lowest_set 64 rest small some)))
-    (λ k p. rw (clear_lowest 64 rest k small some, ne_eqb k t p) (ap (λ u. cond u (f k) 0) (sym (and-true (has rest k)))))
+left_next n rest i y f l next =
+    sum_raise n _ _ i (f i) l
+    (rw (next.others i, eqb_same i) (once (has rest i) (f i) next.set))
+    (λ k p. rw (next.others k, ne_eqb k i p) (ap (λ u. cond u (f k) 0) (sym (and-true (has rest k)))))
 
 -- ---- what is counted
 
@@ -124,27 +122,23 @@ module _ (d mask values : List ℕ) where
         kinds_are = λ n h. let (w, r) = kinds_found n h in record { wrong = w; right = omega (arith, r); sum = omega (arith, r) };
       }
 
-    -- one row more
-    module _ (some : rest ≢ 0) where
-      abbrev row : ℕ
-      row = count_trailing_zeros 64 rest
+    -- the next row is i, and then y are left
+    module _ (i y : ℕ) (next : TakesLowest rest i y) where
+      pub counting_inside : i < length d
+      counting_inside = place_below (length d) rest i y s.few next
 
-      pub counting_inside : row < length d
-      counting_inside = lowest_below (length d) 64 rest size s.few some
-
-      module _ (x : ℕ) (small : x < 2 ^ 64)
-          (bits : (j : ℕ) → has x j ≡ has (get_or mask row 0) j && xor (has (get_or d row 0) j) (has (get_or values row 0) j)) where
-        row_wrong : (n : ℕ) → Below (2 ^ n) mask → ones x ≡ wrong_in n row
+      module _ (x : ℕ) (small : x < 2 ^ 64) (bits : (j : ℕ) → has x j ≡ has (get_or mask i 0) j && xor (has (get_or d i 0) j) (has (get_or values i 0) j)) where
+        row_wrong : (n : ℕ) → Below (2 ^ n) mask → ones x ≡ wrong_in n i
         unfolding faulty Block.differs Block.bit
         row_wrong n h =
-            let narrow : x < 2 ^ n = none_high 64 n x small (λ j k. bits j ∙ ap (λ t. t && xor (has (get_or d row 0) j) (has (get_or values row 0) j)) (has_high n (get_or mask row 0) j (h row) k)) in
+            let narrow : x < 2 ^ n = none_high 64 n x small (λ j k. bits j ∙ ap (λ t. t && xor (has (get_or d i 0) j) (has (get_or values i 0) j)) (has_high n (get_or mask i 0) j (h i) k)) in
             ones_bits n x narrow ∙ sum_ext n _ _ (λ j _. ap num (bits j))
 
-        pub counting_more : Counting (found + ones (get_or mask row 0)) (wrong + ones x) (bit_and rest (rest - 1))
+        pub counting_more : Counting (found + ones (get_or mask i 0)) (wrong + ones x) y
         counting_more =
-            let next : (f : ℕ → ℕ) → left (length d) rest f ≡ f row + left (length d) (bit_and rest (rest - 1)) f = λ f. left_next (length d) rest f (lt_of_lt_of_le s.few (pow_mono size)) some counting_inside in
+            let more : (f : ℕ → ℕ) → left (length d) rest f ≡ f i + left (length d) y f = λ f. left_next (length d) rest i y f counting_inside next in
             record {
-              few = lt_of_le_of_lt (and_le_l rest (rest - 1)) s.few;
-              all = omega (arith, next (λ i. ones (get_or mask i 0)), s.all);
-              wrongs = λ n h. omega (arith, next (wrong_in n), row_wrong n h, s.wrongs n h);
+              few = lt_trans next.fewer s.few;
+              all = omega (arith, more (λ i. ones (get_or mask i 0)), s.all);
+              wrongs = λ n h. omega (arith, more (wrong_in n), row_wrong n h, s.wrongs n h);
             }

@@ -2,6 +2,7 @@
 use mathlib.Core.Path.{◌≡◌, refl, sym, ap, ap₂, ◌∙◌}
 use mathlib.Core.Bool.{Bool, true, not}
 use mathlib.Core.List.{List}
+use Rattle.std.specs.Prelude.{Option, Some, None}
 use mathlib.Core.Logic.{◌≢◌}
 use Prim.Native.Nat.{ℕ, zero, suc, ◌+◌, ◌-◌, ◌^◌, ◌<◌}
 use native.Mathlib.Omega.{arith}
@@ -29,17 +30,17 @@ times_more xs n x i h =
 
 -- ---- the levels inside, and one more
 
-module _ (k at : ℕ) (rows₀ columns₀ rows columns : List ℕ) (u : ℕ) (t : Subgrid) (y : k ≢ 0) (p : at < length rows₀) (q : at < length columns₀) where
-  place : at + (1 + u) ≡ at + 1 + u
-  place = omega arith
-
-  one_more_lem : (o : Outcome) → Follows (k - 1) (at + 1) (set rows₀ at t.rows) (set columns₀ at t.columns) rows columns u o → Follows k at rows₀ columns₀ rows columns (1 + u) (more t o)
-  one_more_lem unmaskable f = omega (arith, f)
-  one_more_lem (masked l r c) f = record {
+module _ (k at : ℕ) (rows₀ columns₀ rows columns : List ℕ) (t : Subgrid) (y : k ≢ 0) (p : at < length rows₀) (q : at < length columns₀) where
+  one_more_lem : (u : Option ℕ) (o : Outcome) → Follows (k - 1) (at + 1) (set rows₀ at t.rows) (set columns₀ at t.columns) rows columns u o
+      → Follows k at rows₀ columns₀ rows columns u (more t o)
+  one_more_lem None unmaskable f = tt
+  one_more_lem None (masked l r c) f = absurd f
+  one_more_lem (Some u) unmaskable f = absurd f
+  one_more_lem (Some u) (masked l r c) f = record {
     few = omega (arith, f.few);
     used = omega (arith, f.used);
-    rows = λ i. ap (λ m. times rows m i) place ∙ f.rows i ∙ omega (arith, times_more rows₀ at t.rows i p);
-    columns = λ j. ap (λ m. times columns m j) place ∙ f.columns j ∙ omega (arith, times_more columns₀ at t.columns j q);
+    rows = λ i. f.rows i ∙ omega (arith, times_more rows₀ at t.rows i p);
+    columns = λ j. f.columns j ∙ omega (arith, times_more columns₀ at t.columns j q);
   }
 
 -- ---- the ways to return
@@ -63,34 +64,31 @@ module _ (n : ℕ) (d mask values : List ℕ) (w : Bool) (s t : Subgrid) (e : t 
 
   module _ (k at : ℕ) (rows₀ columns₀ : List ℕ) where
     -- no wrong cell is left
-    follows_none : t.rows ≡ 0 → Follows k at rows₀ columns₀ rows₀ columns₀ 0 (levels of k w s)
+    follows_none : t.rows ≡ 0 → Follows k at rows₀ columns₀ rows₀ columns₀ (Some at) (levels of k w s)
     follows_none z =
         let f = false_when (left of w s) (λ q. (left_rows of w s).0 q (ap (λ x. x.rows) (sym e) ∙ z)) in
-        let here : at + 0 ≡ at = omega arith in
-        rw (levels_none of k w s f)
-        (record { few = omega arith; used = refl; rows = λ i. ap (λ m. times rows₀ m i) here ∙ omega arith; columns = λ j. ap (λ m. times columns₀ m j) here ∙ omega arith })
+        rw (levels_none of k w s f) (record { few = omega arith; used = omega arith; rows = λ i. omega arith; columns = λ j. omega arith })
 
     -- one is, and no level is allowed
-    follows_stop : t.rows ≢ 0 → k ≡ 0 → Follows k at rows₀ columns₀ rows₀ columns₀ 1 (levels of k w s)
-    follows_stop z e₀ = rw (e₀, levels_stop of w s (some_left z)) refl
+    follows_stop : t.rows ≢ 0 → k ≡ 0 → Follows k at rows₀ columns₀ rows₀ columns₀ None (levels of k w s)
+    follows_stop z e₀ = rw (e₀, levels_stop of w s (some_left z)) tt
 
     -- one is, and one level more is used
-    follows_more : (rows columns : List ℕ) (u : ℕ) → t.rows ≢ 0 → k ≢ 0 → at < length rows₀ → at < length columns₀
+    follows_more : (rows columns : List ℕ) (u : Option ℕ) → t.rows ≢ 0 → k ≢ 0 → at < length rows₀ → at < length columns₀
         → Follows (k - 1) (at + 1) (set rows₀ at t.rows) (set columns₀ at t.columns) rows columns u (levels of (k - 1) (not w) t)
-        → Follows k at rows₀ columns₀ rows columns (1 + u) (levels of k w s)
-    follows_more rows columns u z y l m f = rw (next k z y) (one_more_lem k at rows₀ columns₀ rows columns u t y l m (levels of (k - 1) (not w) t) f)
+        → Follows k at rows₀ columns₀ rows columns u (levels of k w s)
+    follows_more rows columns u z y l m f = rw (next k z y) (one_more_lem k at rows₀ columns₀ rows columns t y l m u (levels of (k - 1) (not w) t) f)
 
 module _ (d mask values : List ℕ) (w : Bool) (t : Subgrid) (k at : ℕ) (rows₀ columns₀ : List ℕ) where
-  pub planned_none : t.rows ≡ 0 → Planned d mask values t w k at rows₀ columns₀ rows₀ columns₀ 0
-  planned_none z = record { few = omega arith; follows = λ n s e. follows_none n d mask values w s t e k at rows₀ columns₀ z }
+  pub planned_none : t.rows ≡ 0 → Planned d mask values t w k at rows₀ columns₀ rows₀ columns₀ (Some at)
+  planned_none z = record { follows = λ n s e. follows_none n d mask values w s t e k at rows₀ columns₀ z }
 
-  pub planned_stop : t.rows ≢ 0 → k ≡ 0 → Planned d mask values t w k at rows₀ columns₀ rows₀ columns₀ 1
-  planned_stop z e₀ = record { few = omega arith; follows = λ n s e. follows_stop n d mask values w s t e k at rows₀ columns₀ z e₀ }
+  pub planned_stop : t.rows ≢ 0 → k ≡ 0 → Planned d mask values t w k at rows₀ columns₀ rows₀ columns₀ None
+  planned_stop z e₀ = record { follows = λ n s e. follows_stop n d mask values w s t e k at rows₀ columns₀ z e₀ }
 
-  pub planned_more : (t' : Subgrid) (rows columns : List ℕ) (u : ℕ) → t.rows ≢ 0 → k ≢ 0 → at < length rows₀ → at < length columns₀ → Takes d mask values t (not w) t'
+  pub planned_more : (t' : Subgrid) (rows columns : List ℕ) (u : Option ℕ) → t.rows ≢ 0 → k ≢ 0 → at < length rows₀ → at < length columns₀ → Takes d mask values t (not w) t'
       → Planned d mask values t' (not w) (k - 1) (at + 1) (set rows₀ at t.rows) (set columns₀ at t.columns) rows columns u
-      → Planned d mask values t w k at rows₀ columns₀ rows columns (1 + u)
+      → Planned d mask values t w k at rows₀ columns₀ rows columns u
   planned_more t' rows columns u z y l m takes p = record {
-    few = omega (arith, p.few);
     follows = λ n s e. follows_more n d mask values w s t e k at rows₀ columns₀ rows columns u z y l m (p.follows n t (takes.taken· n (columns_few n d mask values w s t e)));
   }

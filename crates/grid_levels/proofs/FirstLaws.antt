@@ -2,11 +2,10 @@
 use mathlib.Core.Path.{◌≡◌, refl, sym, ap, ◌∙◌}
 use mathlib.Core.Bool.{Bool, true, false, not, xor, cond, ◌&&◌, and-false}
 use mathlib.Core.List.{List}
-use mathlib.Core.Logic.{◌≢◌}
-use Prim.Native.Nat.{ℕ, ◌+◌, ◌-◌, ◌*◌, ◌^◌, ◌≤◌, ◌<◌}
+use Prim.Native.Nat.{ℕ, ◌+◌, ◌*◌, ◌^◌, ◌≤◌, ◌<◌}
 use native.Mathlib.Omega.{arith}
-use lib.Bits.{bit_and, bit_or}
-use lib.Count.{ones, count_trailing_zeros}
+use lib.Bits.{bit_or}
+use lib.Count.{ones}
 use lib.Dec.{eqb}
 use lib.ListN.{length, get_or}
 use Rattle.bits.specs.Bits.{num, some, has, word, Below}
@@ -15,6 +14,7 @@ use Rattle.bits.proofs.BitLaws.{has_zero, has_word, word_lt, word_ext}
 use Rattle.rdis.specs.Block as Block
 use Rattle.rdis.specs.Block.{Block, faulty}
 use Rattle.rdis.specs.Levels.{Subgrid, whole, takes, takes_row, takes_column, taken}
+use Rattle.words.specs.SetBits.{TakesLowest}
 use Rattle.grid_levels.specs.Steps.{block_of, Begins}
 use Rattle.grid_levels.proofs.CountLaws.{not_stuck, Counting, counting_starts, counting_more, counting_least, counting_done}
 use Rattle.grid_levels.proofs.LevelLaws.{row_whole, Small, Walk, small_starts, walk_starts, small_more, walk_more, walk_done}
@@ -65,38 +65,42 @@ stuck_few d mask rows m e = rw (e, ← m) (word_lt (length mask) _)
 
 -- ---- the first level, with the counts
 
+-- the rows `stuck` hold a stuck cell, and of them those of `rest` are left
 pub record Beginning (d mask values : List ℕ) (stuck faults wrong rows columns rest : ℕ) : Type 0 where
+  pub visits : stuck ≡ word (length mask) (λ i. not (eqb (get_or mask i 0) 0))
   pub counting : Counting d mask values faults wrong rest
   pub small : Small d rest rows columns
   pub walk : (n : ℕ) → Below (2 ^ n) mask → Walk n d mask values (record { rows = stuck; columns = word n (λ _. true) }) true rest rows columns
 
-module _ (d mask values : List ℕ) (m : length mask ≡ length d) (stuck : ℕ) (e : stuck ≡ word (length mask) (λ i. not (eqb (get_or mask i 0) 0))) where
-  pub begin_starts : Beginning d mask values stuck 0 0 0 0 stuck
-  begin_starts = record {
+module _ (d mask values : List ℕ) (m : length mask ≡ length d) (stuck : ℕ) where
+  pub begin_starts : stuck ≡ word (length mask) (λ i. not (eqb (get_or mask i 0) 0)) → Beginning d mask values stuck 0 0 0 0 stuck
+  begin_starts e = record {
+    visits = e;
     counting = counting_starts d mask values stuck m e;
     small = small_starts d stuck (stuck_few d mask stuck m e);
     walk = λ n _. walk_starts n d mask values (record { rows = stuck; columns = word n (λ _. true) }) true;
   }
 
   module _ (size : length d ≤ 64) (fits : Below (2 ^ 64) mask) (faults wrong rows columns rest : ℕ) (s : Beginning d mask values stuck faults wrong rows columns rest) where
-    pub begin_more : rest ≢ 0 → (x mark : ℕ) → x < 2 ^ 64
-        → ((j : ℕ) → has x j ≡ has (get_or mask (count_trailing_zeros 64 rest) 0) j && xor (has (get_or d (count_trailing_zeros 64 rest) 0) j) (has (get_or values (count_trailing_zeros 64 rest) 0) j))
-        → mark ≡ num (not (eqb x 0)) * 2 ^ count_trailing_zeros 64 rest
-        → Beginning d mask values stuck (faults + ones (get_or mask (count_trailing_zeros 64 rest) 0)) (wrong + ones x) (bit_or mark rows) (bit_or x columns) (bit_and rest (rest - 1))
-    begin_more z x mark l bits marks = record {
-      counting = counting_more d mask values size fits faults wrong rest s.counting z x l bits;
-      small = small_more d size rest rows columns s.small z x mark l marks;
+    pub begin_more : (i y : ℕ) → TakesLowest rest i y → (x mark : ℕ) → x < 2 ^ 64
+        → ((j : ℕ) → has x j ≡ has (get_or mask i 0) j && xor (has (get_or d i 0) j) (has (get_or values i 0) j))
+        → mark ≡ num (not (eqb x 0)) * 2 ^ i
+        → Beginning d mask values stuck (faults + ones (get_or mask i 0)) (wrong + ones x) (bit_or rows mark) (bit_or columns x) y
+    begin_more i y next x mark l bits marks = record {
+      visits = s.visits;
+      counting = counting_more d mask values size fits faults wrong rest s.counting i y next x l bits;
+      small = small_more d rest rows columns i y s.small next x mark l marks;
       walk = λ n h.
-          walk_more n d mask values (record { rows = stuck; columns = word n (λ _. true) }) true rest rows columns s.small (s.walk n h) (word_lt n _) size z x mark l
-          (row_whole n d mask values true (count_trailing_zeros 64 rest) x (h (count_trailing_zeros 64 rest)) bits) marks;
+          walk_more n d mask values (record { rows = stuck; columns = word n (λ _. true) }) true rest rows columns s.small (s.walk n h) (word_lt n _) i y next x mark l
+          (row_whole n d mask values true i x (h i) bits) marks;
     }
 
-    pub begin_done : rest ≡ 0 → Begins d mask values (record { faults = faults; wrong = wrong; rows = rows; columns = columns })
+    pub begin_done : rest ≡ 0 → Begins d mask values (record { faults = faults; wrong = wrong; takes = record { rows = rows; columns = columns } })
     begin_done z = record {
       few = s.small.rows_fit;
       least = counting_least d mask values size fits faults wrong rest s.counting z;
       accepts = counting_done d mask values size fits faults wrong rest s.counting z;
       takes· = λ n h.
           walk_done n d mask values (record { rows = stuck; columns = word n (λ _. true) }) true rest rows columns s.small (s.walk n h) (word_lt n _) z
-          ∙ same_taken n d mask values m stuck e true;
+          ∙ same_taken n d mask values m stuck s.visits true;
     }

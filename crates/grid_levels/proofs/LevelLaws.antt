@@ -3,24 +3,25 @@ use mathlib.Core.Path.{◌≡◌, refl, sym, ap, ap₂, subst, ◌∙◌}
 use mathlib.Core.Bool.{Bool, true, false, not, xor, cond, ◌&&◌, ◌||◌, and-true, and-false, and_comm, or_assoc}
 use mathlib.Core.List.{List}
 use mathlib.Core.Logic.{◌≢◌, ⊎_elim}
-use Prim.Native.Nat.{ℕ, zero, suc, ◌-◌, ◌*◌, ◌^◌, ◌≤◌, ◌<◌}
-use native.Mathlib.Nat.{lt_of_le_of_lt, lt_of_lt_of_le, zero-mul, one-mul}
+use Prim.Native.Nat.{ℕ, zero, suc, ◌*◌, ◌^◌, ◌≤◌, ◌<◌}
+use native.Mathlib.Nat.{lt_trans, zero-mul, one-mul}
 use native.Mathlib.Decide.{ℕ_discrete}
 use native.Mathlib.Omega.{arith}
 use borrow.Author.Tests.{eq-eqb, ne_eqb, eqb-true, not-true}
-use lib.Bits.{bit_and, bit_or, or_lt, and_le_l}
-use lib.Count.{count_trailing_zeros}
+use lib.Bits.{bit_and, bit_or, or_lt}
 use lib.Dec.{eqb}
 use lib.ListN.{length, get_or}
-use lib.Pow.{pow_pos, pow-lt, pow_mono}
+use lib.Pow.{pow_pos, pow-lt}
 use Rattle.bits.specs.Bits.{num, some, has, word}
 use Rattle.bits.proofs.TestLaws.{same_test, clash, and_left, lt_or_le, eqb_same}
 use Rattle.bits.proofs.BoundLaws.{some_in, some_out, some_none, some_ext}
-use Rattle.bits.proofs.BitLaws.{has_and, has_or, has_zero, has_one, has_high, has_word, is_word, none_high, some_has, lowest_set, lowest_below, clear_lowest}
+use Rattle.bits.proofs.BitLaws.{has_and, has_or, has_zero, has_one, has_high, has_word, is_word, none_high, some_has}
 use Rattle.rdis.specs.Block as Block
 use Rattle.rdis.specs.Block.{faulty}
 use Rattle.rdis.specs.Levels.{Subgrid, takes, takes_row, takes_column, taken}
-use Rattle.grid_levels.specs.Steps.{block_of}
+use Rattle.words.specs.SetBits.{TakesLowest}
+use Rattle.words.proofs.SetBitsLaws.{place_below}
+use Rattle.grid_levels.specs.Steps.{block_of, IsKind}
 
 -- ---- the faults of a row
 
@@ -30,7 +31,7 @@ Holds n d mask values w columns i x = (j : ℕ) → has x j ≡ has columns j &&
 
 -- a row's faults, cut down to the columns
 pub row_holds : (n : ℕ) (d mask values : List ℕ) (w : Bool) (columns i x : ℕ)
-    → ((j : ℕ) → has x j ≡ has (get_or mask i 0) j && cond w (xor (has (get_or d i 0) j) (has (get_or values i 0) j)) (not (xor (has (get_or d i 0) j) (has (get_or values i 0) j))))
+    → IsKind w (get_or d i 0) (get_or mask i 0) (get_or values i 0) x
     → Holds n d mask values w columns i (bit_and x columns)
 unfolding Holds faulty Block.differs Block.bit
 row_holds n d mask values w columns i x h j = has_and x columns j ∙ and_comm (has x j) (has columns j) ∙ ap (λ t. has columns j && t) (h j)
@@ -42,7 +43,7 @@ inside false true h = clash (h refl) refl
 inside false false h = refl
 
 pub row_whole : (n : ℕ) (d mask values : List ℕ) (w : Bool) (i x : ℕ) → get_or mask i 0 < 2 ^ n
-    → ((j : ℕ) → has x j ≡ has (get_or mask i 0) j && cond w (xor (has (get_or d i 0) j) (has (get_or values i 0) j)) (not (xor (has (get_or d i 0) j) (has (get_or values i 0) j))))
+    → IsKind w (get_or d i 0) (get_or mask i 0) (get_or values i 0) x
     → Holds n d mask values w (word n (λ _. true)) i x
 unfolding Holds faulty Block.differs Block.bit
 row_whole n d mask values w i x l h j =
@@ -128,42 +129,42 @@ module _ (n : ℕ) (d mask values : List ℕ) (w : Bool) (columns i x : ℕ) (h 
   row_test = same_test (not (eqb x 0)) (some n in_row) row_found row_lost
 
 -- the row e that is done leaves the rows r: with z it is taken, as a says
-row_step : (e z r a h : Bool) → (e ≡ true → r ≡ true) → (e ≡ true → z ≡ a) → ((z && e) || h) || ((r && not e) && a) ≡ h || (r && a)
+row_step : (e z r a h : Bool) → (e ≡ true → r ≡ true) → (e ≡ true → z ≡ a) → (h || (z && e)) || ((r && not e) && a) ≡ h || (r && a)
 row_step true z false a h p q = clash (p refl) refl
 row_step true true true true true p q = refl
 row_step true true true true false p q = refl
 row_step true true true false h p q = clash refl (q refl)
 row_step true false true true h p q = clash (q refl) refl
-row_step true false true false h p q = refl
-row_step false true true a h p q = refl
-row_step false true false a h p q = refl
-row_step false false true a h p q = refl
-row_step false false false a h p q = refl
+row_step true false true false true p q = refl
+row_step true false true false false p q = refl
+row_step false true r a true p q = refl
+row_step false false r a true p q = refl
+row_step false true true a false p q = refl
+row_step false true false a false p q = refl
+row_step false false true a false p q = refl
+row_step false false false a false p q = refl
 
 -- in a column c: the fault f of the row that is done, and those y of the others
-column_step : (c f h y : Bool) → ((c && f) || h) || (c && y) ≡ h || (c && (f || y))
-column_step true true true y = refl
-column_step true true false y = refl
-column_step true false h y = refl
-column_step false f h y = refl
+column_step : (c f h y : Bool) → (h || (c && f)) || (c && y) ≡ h || (c && (f || y))
+column_step true f true y = refl
+column_step true f false y = refl
+column_step false f true y = refl
+column_step false f false y = refl
 
 alone : (r f : Bool) → r ≡ true → r && f ≡ f || ((r && not true) && f)
 alone true true h = refl
 alone true false h = refl
 alone false f h = clash h refl
 
-module _ (d : List ℕ) (size : length d ≤ 64) (rest rows columns : ℕ) (v : Small d rest rows columns) (some-rest : rest ≢ 0) where
-  small : rest < 2 ^ 64
-  small = lt_of_lt_of_le v.few (pow_mono size)
+module _ (d : List ℕ) (rest rows columns i y : ℕ) (v : Small d rest rows columns) (next : TakesLowest rest i y) where
+  pub walk_inside : i < length d
+  walk_inside = place_below (length d) rest i y v.few next
 
-  pub walk_inside : count_trailing_zeros 64 rest < length d
-  walk_inside = lowest_below (length d) 64 rest size v.few some-rest
-
-  pub small_more : (x mark : ℕ) → x < 2 ^ 64 → mark ≡ num (not (eqb x 0)) * 2 ^ count_trailing_zeros 64 rest → Small d (bit_and rest (rest - 1)) (bit_or mark rows) (bit_or x columns)
+  pub small_more : (x mark : ℕ) → x < 2 ^ 64 → mark ≡ num (not (eqb x 0)) * 2 ^ i → Small d y (bit_or rows mark) (bit_or columns x)
   small_more x mark fits marks = record {
-    few = lt_of_le_of_lt (and_le_l rest (rest - 1)) v.few;
-    rows_fit = or_lt (length d) mark rows (rw marks (mark_lt (not (eqb x 0)) (count_trailing_zeros 64 rest) (length d) walk_inside)) v.rows_fit;
-    columns_fit = or_lt 64 x columns fits v.columns_fit;
+    few = lt_trans next.fewer v.few;
+    rows_fit = or_lt (length d) rows mark v.rows_fit (rw marks (mark_lt (not (eqb x 0)) i (length d) walk_inside));
+    columns_fit = or_lt 64 columns x v.columns_fit fits;
   }
 
 module _ (n : ℕ) (d mask values : List ℕ) (s : Subgrid) (w : Bool) (rest rows columns : ℕ) (v : Small d rest rows columns) (k : Walk n d mask values s w rest rows columns) (l : s.columns < 2 ^ n) where
@@ -197,36 +198,27 @@ module _ (n : ℕ) (d mask values : List ℕ) (s : Subgrid) (w : Bool) (rest row
         let q : columns ≡ word n (takes_column b w s) = is_word n columns (takes_column b w s) (none_high 64 n columns v.columns_fit high) (λ j _. columns_done j) in
         λ t. record { rows = p t; columns = q t }
 
-  -- one row more
-  module _ (size : length d ≤ 64) (some-rest : rest ≢ 0) where
-    abbrev row : ℕ
-    row = count_trailing_zeros 64 rest
+  -- the next row is t, and then y are left
+  module _ (t y : ℕ) (next : TakesLowest rest t y) (x mark : ℕ) (fits : x < 2 ^ 64) (holds : Holds n d mask values w s.columns t x) (marks : mark ≡ num (not (eqb x 0)) * 2 ^ t) where
+    next_rows : (i : ℕ) → has (bit_or rows mark) i || takes_row b w (of s y) i ≡ has rows i || takes_row b w (of s rest) i
+    unfolding takes
+    next_rows i =
+        let f : ℕ → Bool = λ i. some n (λ j. has s.columns j && faulty b w i j) in
+        let at : eqb i t ≡ true → i ≡ t = λ q. eqb-true i t q in
+        ap₂ (λ p q. p || (q && f i)) (has_or rows mark i ∙ ap (λ p. has rows i || p) (ap (λ y. has y i) marks ∙ has_mark (not (eqb x 0)) t i)) (next.others i)
+        ∙ row_step (eqb i t) (not (eqb x 0)) (has rest i) (f i) (has rows i)
+        (λ q. ap (has rest) (at q) ∙ next.set) (λ q. row_test n d mask values w s.columns t x fits l holds ∙ ap f (sym (at q)))
 
-    abbrev fewer : ℕ
-    fewer = bit_and rest (rest - 1)
+    next_columns : (j : ℕ) → has (bit_or columns x) j || takes_column b w (of s y) j ≡ has columns j || takes_column b w (of s rest) j
+    unfolding takes Holds
+    next_columns j =
+        let f : ℕ → Bool = λ i. faulty b w i j in
+        let apart = some_raise (length d) (λ i. has rest i && f i) (λ i. has y i && f i) t (f t) (walk_inside d rest rows columns t y v next)
+        (rw (next.others t, eqb_same t) (alone (has rest t) (f t) next.set))
+        (λ k p. rw (next.others k, ne_eqb k t p) (ap (λ u. u && f k) (sym (and-true (has rest k))))) in
+        ap (λ p. p || (has s.columns j && some (length d) (λ i. has y i && f i))) (has_or columns x j ∙ ap (λ p. has columns j || p) (holds j))
+        ∙ column_step (has s.columns j) (f t) (has columns j) (some (length d) (λ i. has y i && f i))
+        ∙ ap (λ p. has columns j || (has s.columns j && p)) (sym apart)
 
-    module _ (x mark : ℕ) (fits : x < 2 ^ 64) (holds : Holds n d mask values w s.columns row x) (marks : mark ≡ num (not (eqb x 0)) * 2 ^ row) where
-      next_rows : (i : ℕ) → has (bit_or mark rows) i || takes_row b w (of s fewer) i ≡ has rows i || takes_row b w (of s rest) i
-      unfolding takes
-      next_rows i =
-          let f : ℕ → Bool = λ i. some n (λ j. has s.columns j && faulty b w i j) in
-          let at : eqb i row ≡ true → i ≡ row = λ q. eqb-true i row q in
-          let under = small d size rest rows columns v some-rest in
-          ap₂ (λ p q. p || (q && f i)) (has_or mark rows i ∙ ap (λ p. p || has rows i) (ap (λ y. has y i) marks ∙ has_mark (not (eqb x 0)) row i)) (clear_lowest 64 rest i under some-rest)
-          ∙ row_step (eqb i row) (not (eqb x 0)) (has rest i) (f i) (has rows i)
-          (λ q. ap (has rest) (at q) ∙ lowest_set 64 rest under some-rest) (λ q. row_test n d mask values w s.columns row x fits l holds ∙ ap f (sym (at q)))
-
-      next_columns : (j : ℕ) → has (bit_or x columns) j || takes_column b w (of s fewer) j ≡ has columns j || takes_column b w (of s rest) j
-      unfolding takes Holds
-      next_columns j =
-          let f : ℕ → Bool = λ i. faulty b w i j in
-          let under = small d size rest rows columns v some-rest in
-          let apart = some_raise (length d) (λ i. has rest i && f i) (λ i. has fewer i && f i) row (f row) (walk_inside d size rest rows columns v some-rest)
-          (rw (clear_lowest 64 rest row under some-rest, eqb_same row) (alone (has rest row) (f row) (lowest_set 64 rest under some-rest)))
-          (λ k p. rw (clear_lowest 64 rest k under some-rest, ne_eqb k row p) (ap (λ u. u && f k) (sym (and-true (has rest k))))) in
-          ap (λ p. p || (has s.columns j && some (length d) (λ i. has fewer i && f i))) (has_or x columns j ∙ ap (λ p. p || has columns j) (holds j))
-          ∙ column_step (has s.columns j) (f row) (has columns j) (some (length d) (λ i. has fewer i && f i))
-          ∙ ap (λ p. has columns j || (has s.columns j && p)) (sym apart)
-
-      pub walk_more : Walk n d mask values s w fewer (bit_or mark rows) (bit_or x columns)
-      walk_more = record { rows_are = λ i. next_rows i ∙ k.rows_are i; columns_are = λ j. next_columns j ∙ k.columns_are j }
+    pub walk_more : Walk n d mask values s w y (bit_or rows mark) (bit_or columns x)
+    walk_more = record { rows_are = λ i. next_rows i ∙ k.rows_are i; columns_are = λ j. next_columns j ∙ k.columns_are j }

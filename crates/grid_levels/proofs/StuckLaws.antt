@@ -86,8 +86,8 @@ module _ (m : ℕ) (f : ℕ → Bool) where
   from_more i rows mark p l h e = let q : i ≡ suc (i - 1) = omega arith in before (i - 1) rows mark (omega arith) h (subst (λ x. From m f x rows) q e)
 
   -- eight more at a time
-  pub from_room : (i rows : ℕ) → m ≤ 64 → 8 ≤ i → From m f i rows → rows < 2 ^ 56
-  from_room i rows l p e = let q : m - i ≤ 56 = omega arith in rw e (lt_of_lt_of_le (word_lt (m - i) _) (pow_mono q))
+  pub from_room : (e rows : ℕ) → m ≤ 64 → 0 < e → From m f (8 * e) rows → rows < 2 ^ 56
+  from_room e rows l p h = let q : m - 8 * e ≤ 56 = omega arith in rw h (lt_of_lt_of_le (word_lt (m - 8 * e) _) (pow_mono q))
 
   eight : (i rows high low : ℕ) → i + 8 ≤ m → high ≡ word 4 (λ k. f (i + 4 + k)) → low ≡ word 4 (λ k. f (i + k)) → From m f (i + 8) rows → From m f i (rows * 256 + (high * 16 + low))
   eight i rows high low l h w e =
@@ -98,11 +98,11 @@ module _ (m : ℕ) (f : ℕ → Bool) where
       (ap₂ (λ x y. x * 16 + y) (h ∙ word_ext 4 _ (λ k. g (4 + k)) (λ k _. ap f (omega arith))) w ∙ sym (word_split 4 4 g))
       ∙ sym (word_split 8 (m - (i + 8)) g) ∙ ap (λ x. word x g) n
 
-  pub from_eight : (i rows high low : ℕ) → 8 ≤ i → i ≤ m → high ≡ word 4 (λ k. f (i - 8 + 4 + k)) → low ≡ word 4 (λ k. f (i - 8 + k)) → From m f i rows
-      → From m f (i - 8) (rows * 256 + (high * 16 + low))
-  from_eight i rows high low p l h w e =
-      let q : i ≡ i - 8 + 8 = omega arith in
-      eight (i - 8) rows high low (omega arith) h w (subst (λ x. From m f x rows) q e)
+  pub from_eight : (e rows high low : ℕ) → 0 < e → 8 * e ≤ m → high ≡ word 4 (λ k. f (8 * (e - 1) + 4 + k)) → low ≡ word 4 (λ k. f (8 * (e - 1) + k)) → From m f (8 * e) rows
+      → From m f (8 * (e - 1)) (rows * 256 + (high * 16 + low))
+  from_eight e rows high low p l h w s =
+      let q : 8 * e ≡ 8 * (e - 1) + 8 = omega arith in
+      eight (8 * (e - 1)) rows high low (omega arith) h w (subst (λ x. From m f x rows) q s)
 
   pub from_start : (i rows : ℕ) → i ≡ 0 → From m f i rows → rows ≡ word m f
   from_start i rows z e = let n : m - i ≡ m = omega arith in e ∙ ap (λ x. word x (λ k. f (i + k))) n ∙ word_ext m _ f (λ k _. ap f (omega arith))

@@ -1,14 +1,26 @@
 // The stuck cells of rows, as bits of words.
-ghost use Rattle.std.specs.Prelude.{◌≡◌, not, cond, ◌&&◌, ℕ, ◌+◌, ◌*◌, ◌^◌, ◌<◌, ◌≤◌, eqb, length, get_or};
-ghost use Rattle.std.specs.Bool.{xor};
-ghost use Rattle.bits.specs.Bits.{num, has, word};
+ghost use Rattle.std.specs.Prelude.{◌≡◌, not, ◌+◌, ◌*◌, ◌^◌, ◌<◌, ◌≤◌, eqb, length, get_or};
+ghost use Rattle.bits.specs.Bits.{num, word};
+ghost use Rattle.grid_levels.specs.Steps.{IsKind};
 
-// The stuck cells of a row that are wrong for the data, or the right ones.
+use crate::rows::Rows;
+
+// The stuck cells of a row that are wrong for the data, or the right ones. `wrong` is a Boolean: `IsKind` computes with it.
 pub fn stuck_as(wrong: bool, want: u64, mask: u64, value: u64) -> u64
-    ensures { (j : ℕ) → has result j ≡ (has mask j && cond wrong (xor (has want j) (has value j)) (not (xor (has want j) (has value j)))) }
+    ensures { IsKind wrong want mask value result }
 {
     let d = mask & (want ^ value);
     if wrong { d } else { mask ^ d }
+}
+
+impl Rows<'_> {
+    // The stuck cells of row `i`, wrong or right.
+    pub(crate) fn stuck_as(&self, wrong: bool, i: usize) -> u64
+        requires { i < length self.now.data.now }
+        ensures { let r = self.now in IsKind wrong (get_or r.data.now i 0) (get_or r.mask.now i 0) (get_or r.values.now i 0) result }
+    {
+        stuck_as(wrong, self.data[i], self.mask[i], self.values[i])
+    }
 }
 
 // The set of line `i` alone, or of nothing.
@@ -16,7 +28,7 @@ pub fn mark_if(t: bool, i: usize) -> u64
     requires { i < 64 }
     ensures { result ≡ num t * 2 ^ i }
 {
-    if t { 1 << i } else { 0 }
+    u64::from(t) << i
 }
 
 // Which of the four words from word `i` on are not 0, as bits.
@@ -34,15 +46,13 @@ pub fn stuck_rows(mask: &[u64]) -> u64
     requires { length mask.now ≤ 64 }
     ensures { result ≡ word (length mask.now) (λ i. not (eqb (get_or mask.now i 0) 0)) }
 {
+    let eights = mask.len() / 8;
     let mut rows = 0u64;
-    let mut i = mask.len();
-    while i % 8 != 0 {
-        i -= 1;
+    for i in (8 * eights..mask.len()).rev() {
         rows = rows * 2 + mark_if(mask[i] != 0, 0);
     }
-    while i != 0 {
-        i -= 8;
-        rows = rows * 256 + (bits_of_four(mask, i + 4) * 16 + bits_of_four(mask, i));
+    for e in (0..eights).rev() {
+        rows = rows * 256 + (bits_of_four(mask, 8 * e + 4) * 16 + bits_of_four(mask, 8 * e));
     }
     rows
 }

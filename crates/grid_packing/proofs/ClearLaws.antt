@@ -4,17 +4,21 @@ use mathlib.Core.Path.{◌≡◌, sym, ap, ap₂, ◌∙◌}
 use mathlib.Core.Bool.{Bool, true, false}
 use mathlib.Core.List.{List}
 use native.Mathlib.Omega.{arith}
-use lib.ListN.{length, get_or, length-append}
+use lib.ListN.{length, get_or, length-append, replicate, length-replicate}
 use lib.Pow.{pow_pos}
 use Rattle.bits.specs.Bits.{sum, list, has, word, words, bytes, Below}
 use Rattle.bits.proofs.TestLaws.{clash}
-use Rattle.bits.proofs.BoundLaws.{length_list, list_ext}
+use Rattle.bits.proofs.BoundLaws.{length_list, list_ext, list_get_or}
+use Rattle.bits.proofs.ByteLaws.{get_or_zeros}
 use Rattle.bits.proofs.BitLaws.{has_zero, is_word}
 use Rattle.rdis.specs.Packing.{width, bytes_for, in_order, packed}
 use Rattle.rdis.proofs.PackingLaws.{in_order_below, packed_bits, width_some}
 use Rattle.grid_sets.specs.Sets.{times}
 use Rattle.grid_sets.proofs.RoomLaws.{packs}
 use Rattle.grid_sets.specs.Promises.{packable, Pack}
+
+pub zeros : (n : ℕ) → replicate n 0 ≡ list {A = ℕ} n (λ _. 0)
+zeros n = list_get_or n (λ _. 0) 0 (replicate n 0) (length-replicate n 0) (λ i _. get_or_zeros n i)
 
 zeros_packed : (w m : ℕ) (cs : List ℕ) → 0 < w → ((t : ℕ) → get_or cs t 0 ≡ 0) → m ≡ bytes_for w (length cs) → list m (λ _. 0) ≡ packed w cs
 unfolding bytes words

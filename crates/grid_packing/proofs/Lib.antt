@@ -1,9 +1,9 @@
 pub mod SpreadLaws
 pub mod SpacedLaws
+pub mod NarrowLaws
+pub mod SideLaws
 pub mod TallyLaws
 pub mod FillLaws
-pub mod ThreeFillLaws
-pub mod OneLaws
 pub mod ClearLaws
 pub mod OneFill
 pub mod Claims

@@ -1,49 +1,92 @@
-// The bytes of counters whose planes are given: their bits are made 64 at once, and stored.
-ghost use Rattle.std.specs.Prelude.{◌≡◌, ◌≤◌};
+// The bytes of counters whose planes are given: their bits are made as many at once as a word holds, and stored.
+ghost use Rattle.std.specs.Prelude.{◌≡◌, ℕ, ◌+◌, ◌*◌, ◌≤◌};
 ghost use Rattle.bits.specs.Bits.{word};
 ghost use Rattle.rdis.specs.Packing.{width as width_of};
-ghost use Rattle.grid_packing.specs.Steps.{spaced, Pairs, StoresPlanes};
+ghost use Rattle.grid_sets.specs.Planes.{AreThrees};
+ghost use Rattle.grid_packing.specs.Promises.{bit_of, FillsPlanes};
+ghost use Rattle.grid_packing.specs.Steps.{StoresAt};
 
-use grid_sets::Planes;
+use crate::apart::{apart, apart_by_three};
+use crate::narrow::Narrow;
 use words::store;
 
-// The 32 lowest bits at the even places, with 0 between. In a block with few faults most of them are 0.
-pub fn apart(v: u64) -> u64
-    ensures { result ≡ word 64 (spaced 2 v) }
+// ---- counters side by side
+
+// The 32 counters from counter `at` on, of two bits.
+fn pairs<C: Narrow>(counters: C, at: usize) -> u64
+    requires { at ≤ 32 }
+    ensures { (f : ℕ → ℕ) → AreThrees 64 f (C.planes_of counters) → result ≡ word 64 (λ i. bit_of 2 f (2 * at + i)) }
 {
-    let a = 0xffff_ffff & v;
-    if a == 0 {
-        return 0;
-    }
-    let b = 0x0000_ffff_0000_ffff & (a | (a << 16));
-    let c = 0x00ff_00ff_00ff_00ff & (b | (b << 8));
-    let d = 0x0f0f_0f0f_0f0f_0f0f & (c | (c << 4));
-    let e = 0x3333_3333_3333_3333 & (d | (d << 2));
-    0x5555_5555_5555_5555 & (e | (e << 1))
+    let p = counters.planes();
+    (apart(p.planes.high >> at) << 1) | apart(p.planes.low >> at)
 }
 
-// 32 counters of two bits, side by side: the 32 lowest bits of two planes.
-fn pairs(low: u64, high: u64) -> u64
-    ensures { Pairs low high result }
+// The 16 counters from counter `at` on, of three bits.
+fn triples<C: Narrow>(counters: C, at: usize) -> u64
+    requires { at ≤ 48 }
+    ensures { (f : ℕ → ℕ) → AreThrees 64 f (C.planes_of counters) → result ≡ word 48 (λ i. bit_of 3 f (3 * at + i)) }
 {
-    (apart(high) << 1) | apart(low)
+    let p = counters.planes();
+    (apart_by_three(p.top >> at) << 2)
+        | ((apart_by_three(p.planes.high >> at) << 1) | apart_by_three(p.planes.low >> at))
 }
 
-// Stores 128 counters of one or two bits, which have these planes, as far as there are bytes. The second 64 come after the first.
-pub fn fill(out: &mut [u8], k: usize, first: Planes, second: Planes)
-    requires { width_of k ≤ 2 }
-    ensures { StoresPlanes (width_of k) first second out.old out.new }
+// ---- stored: each width in its own way, since 64 counters are one word, two words, or three words of four parts
+
+// Stores 64 of three bits from byte `q` on, as far as there are bytes. 16 counters are three quarters of a word.
+fn store_by_three<C: Narrow>(out: &mut [u8], q: usize, counters: C)
+    requires { q ≤ 24 }
+    ensures { StoresAt 3 q (C.planes_of counters) out.old out.new }
 {
-    if grid_sizes::width(k) == 1 {
-        store(out, 0, first.low);
-        store(out, 8, second.low);
+    let a = triples(counters, 0);
+    let b = triples(counters, 16);
+    let c = triples(counters, 32);
+    let d = triples(counters, 48);
+    store(out, q, (b << 48) | a);
+    store(out, q + 8, (c << 32) | (b >> 16));
+    store(out, q + 16, (d << 16) | (c >> 32));
+}
+
+// Stores 128 of three bits. The second 64 come after the first.
+fn fill_by_three<C: Narrow>(out: &mut [u8], first: C, second: C)
+    ensures { FillsPlanes 3 (C.planes_of first) (C.planes_of second) out.old out.new }
+{
+    store_by_three(out, 0, first);
+    if out.len() <= 24 {
         return;
     }
-    store(out, 0, pairs(first.low, first.high));
-    store(out, 8, pairs(first.low >> 32, first.high >> 32));
+    store_by_three(out, 24, second);
+}
+
+// Stores 128 of two bits.
+fn fill_by_two<C: Narrow>(out: &mut [u8], first: C, second: C)
+    ensures { FillsPlanes 2 (C.planes_of first) (C.planes_of second) out.old out.new }
+{
+    store(out, 0, pairs(first, 0));
+    store(out, 8, pairs(first, 32));
     if out.len() <= 16 {
         return;
     }
-    store(out, 16, pairs(second.low, second.high));
-    store(out, 24, pairs(second.low >> 32, second.high >> 32));
+    store(out, 16, pairs(second, 0));
+    store(out, 24, pairs(second, 32));
+}
+
+// Stores 128 of one bit, which are their lowest planes.
+fn fill_by_one<C: Narrow>(out: &mut [u8], first: C, second: C)
+    ensures { FillsPlanes 1 (C.planes_of first) (C.planes_of second) out.old out.new }
+{
+    store(out, 0, first.planes().planes.low);
+    store(out, 8, second.planes().planes.low);
+}
+
+// Stores 128 at K, as far as there are bytes. Inlined, since a call would pass three planes through memory.
+#[inline(always)]
+pub fn fill<C: Narrow>(out: &mut [u8], k: usize, first: C, second: C)
+    ensures { FillsPlanes (width_of k) (C.planes_of first) (C.planes_of second) out.old out.new }
+{
+    match grid_sizes::width(k) {
+        1 => fill_by_one(out, first, second),
+        2 => fill_by_two(out, first, second),
+        _ => fill_by_three(out, first, second),
+    }
 }

@@ -1,79 +1,52 @@
-// The counters of levels as planes: how many of the sets that the levels took have each line, 64 lines at once, and the columns' counters after the rows'.
-ghost use Rattle.std.specs.Prelude.{◌≡◌, Bool, false, ℕ, ◌+◌, ◌≤◌};
-ghost use Rattle.bits.specs.Bits.{num, has, word};
+// The counters of levels as planes: how many of the sets that the levels took have each line, 64 lines at once.
+ghost use Rattle.std.specs.Prelude.{ℕ, ◌+◌, ◌<◌, length};
+ghost use Rattle.bits.specs.Bits.{num, has};
 ghost use Rattle.grid_sets.specs.Sets.{times};
-ghost use Rattle.grid_sets.specs.Planes.{AreBits};
+ghost use Rattle.grid_sets.specs.Planes.{AreThrees};
 
-use grid_sets::{LEVELS, Planes};
+use crate::lines::Lines;
+use crate::narrow::Narrow;
+use grid_sets::{Planes, Threes};
 
 // Counts one set more: adds 1 to the counters of its lines.
-pub fn with_set(p: Planes, s: u64) -> Planes
-    ensures { (f : ℕ → ℕ) → AreBits 64 f p → AreBits 64 (λ i. num (has s i) + f i) result }
+fn with_set(p: Threes, set: u64) -> Threes
+    ensures { (f : ℕ → ℕ) → AreThrees 64 f p → AreThrees 64 (λ i. num (has set i) + f i) result }
 {
-    Planes {
-        low: p.low ^ s,
-        high: p.high ^ (p.low & s),
+    let Planes { low, high } = p.planes;
+    Threes {
+        planes: Planes {
+            low: low ^ set,
+            high: high ^ (low & set),
+        },
+        top: p.top ^ (high & (low & set)),
     }
 }
 
-// The planes of `n` lines: how many of the first `used` sets have each. The sets may have lines past them.
-pub fn tally(sets: &[u64; LEVELS], used: usize, n: usize) -> Planes
-    requires { (used ≤ 8) × (n ≤ 64) }
-    ensures { AreBits n (times sets.now used) result }
+// The same counters without the lines past the last.
+fn within(p: Threes, lines: Lines) -> Threes
+    ensures { (f : ℕ → ℕ) → AreThrees 64 f p → AreThrees lines.count f result }
 {
-    let inside = words::low_bits(n);
-    let mut p = Planes { low: 0, high: 0 };
-    let mut m = 0;
-    while m < used {
-        p = with_set(p, sets[m]);
-        m += 1;
-    }
-    Planes {
-        low: inside & p.low,
-        high: inside & p.high,
+    let inside = words::low_bits(lines.count);
+    Threes {
+        planes: Planes {
+            low: inside & p.planes.low,
+            high: inside & p.planes.high,
+        },
+        top: inside & p.top,
     }
 }
 
-// The first 64 bits of two words side by side, the second after the `at` bits of the first.
-pub fn front(a: u64, b: u64, at: usize) -> u64
-    requires { at ≤ 64 }
-    ensures { (f : ℕ → Bool) → a ≡ word at f → b ≡ word 64 (λ i. f (at + i)) → result ≡ word 64 f }
+// How many of the sets have each line. The sets may have lines past the last.
+pub fn tally<C: Narrow>(sets: &[u64], lines: Lines) -> C
+    requires { length sets.now < C.limit }
+    ensures { AreThrees lines.count (times sets.now (length sets.now)) (C.planes_of result) }
 {
-    if at == 64 {
-        return a;
+    let mut p = Threes {
+        planes: Planes { low: 0, high: 0 },
+        top: 0,
+    };
+    for set in sets {
+        p = with_set(p, *set);
     }
-    (b << at) | a
-}
-
-// The bits after those: the last `at` bits of the second word, and then 0.
-pub fn back(b: u64, at: usize) -> u64
-    requires { at ≤ 64 }
-    ensures { (f : ℕ → Bool) → b ≡ word 64 (λ i. f (at + i)) → ((t : ℕ) → at + 64 ≤ t → f t ≡ false) → result ≡ word 64 (λ i. f (64 + i)) }
-{
-    if at == 0 {
-        return 0;
-    }
-    b >> (64 - at)
-}
-
-// The planes of the first 64 of all counters: those of `at` rows, then those of the columns.
-pub fn first(rows: Planes, columns: Planes, at: usize) -> Planes
-    requires { at ≤ 64 }
-    ensures { (f : ℕ → ℕ) → AreBits at f rows → AreBits 64 (λ i. f (at + i)) columns → AreBits 64 f result }
-{
-    Planes {
-        low: front(rows.low, columns.low, at),
-        high: front(rows.high, columns.high, at),
-    }
-}
-
-// The planes of the other 64.
-pub fn second(columns: Planes, at: usize) -> Planes
-    requires { at ≤ 64 }
-    ensures { (f : ℕ → ℕ) → AreBits 64 (λ i. f (at + i)) columns → ((t : ℕ) → at + 64 ≤ t → f t ≡ 0) → AreBits 64 (λ i. f (64 + i)) result }
-{
-    Planes {
-        low: back(columns.low, at),
-        high: back(columns.high, at),
-    }
+    C::from_planes(within(p, lines))
 }

@@ -1,4 +1,5 @@
-// What the four calls on grid blocks answer. Their meaning and what they promise is in specs/, their code in the crate grid.
+// What the four calls on grid blocks answer, in numbers, since C is answered these structs. Their meaning and what they promise is in specs/, their code in the
+// crate grid.
 #![tactic(auto)]
 
 // What a read answers: 0 or the number of the refusal, and with refusal 4 the index of the first counter above K.
@@ -9,7 +10,7 @@ pub struct ReadAnswer {
     pub index: usize,
 }
 
-// What a conversion answers: the same of its own.
+// What a conversion answers: the same of its own. A type apart, since C has one for it.
 #[repr(C)]
 #[derive(Drop)]
 pub struct ConvertAnswer {

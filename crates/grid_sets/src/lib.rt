@@ -1,26 +1,20 @@
 // Counters as sets of lines and as planes: definitions (specs/) and laws (proofs/), and how many sets and lines there is room for. No code.
 #![tactic(auto)]
 
+use refusals::Refusal;
+
 // The most rows, and the most columns, that a block has.
 pub const LINES: usize = 64;
 // The sets of rows, and of columns, that there is room for: a larger K changes no shape.
 pub const LEVELS: usize = 8;
 
-// What bytes hold: 0 or the number of the refusal, with refusal 4 the index of the first counter above K, and the sets of the rows' counters and of the
-// columns'. Set s has the lines whose counter is above s.
+// What bytes hold: what was judged of them, and the sets of the rows' counters and of the columns'. Set s has the lines whose counter is above s. The sets
+// stand beside the judgment, and not under its `Ok`: they are handed out refused or not.
 #[derive(Drop)]
 pub struct Counters {
-    pub number: usize,
-    pub index: usize,
+    pub judged: Result<(), Refusal>,
     pub rows: [u64; LEVELS],
     pub columns: [u64; LEVELS],
-}
-
-// What a conversion answers: 0 or the number of the refusal, and with refusal 4 the index of the first counter above K.
-#[derive(Drop)]
-pub struct Converted {
-    pub number: usize,
-    pub index: usize,
 }
 
 // Bit 0 and bit 1 of 64 counters: bit i of a word is that of counter i.

@@ -15,6 +15,7 @@ const MOST_LEVELS: usize = 7;
 // The most counters that a block has: one for each of 64 rows and 64 columns.
 const MOST_COUNTERS: usize = 128;
 
+// From the first to the last. Not `(first..=last).contains(&x)`: its contract speaks of a comparison of any type, and the proof would take laws of it.
 fn is_between(first: usize, last: usize, x: usize) -> bool
     ensures { result ≡ between first last x }
 {
@@ -38,7 +39,7 @@ pub fn width(k: usize) -> usize
     if k <= 3 { 2 } else { 3 }
 }
 
-// How many bytes `count` counters take, and 0 for more than a block has: their bits might overflow.
+// How many bytes `count` counters take, and 0 for more than a block has: their bits might overflow. Its contract, which docs/PROMISES.md lists, says 0 there.
 pub fn bytes_of(k: usize, count: usize) -> usize
     ensures { result ≡ cond (leb count 128) (bytes_for (width_of k) count) 0 }
 {

@@ -8,15 +8,11 @@ use lib.Bits.{bit_and, bit_xor, and_le_l, xor_lt}
 use lib.Dec.{eqb}
 use lib.ListN.{length, get_or, take, set, length-set}
 use Rattle.bits.specs.Bits.{has, at, bytes, list, Below}
-use Rattle.bits.proofs.BoundLaws.{list_get_or, list_done}
 use Rattle.bits.proofs.BitLaws.{is_word}
 use Rattle.bits.proofs.ByteLaws.{below_set, at_byte, is_bytes, bytes_more}
 use Rattle.pointer_promises.specs.Pointer.{pointer, replacement, entry, shown, stored}
 use Rattle.pointer_promises.proofs.EntryLaws.{shown_snoc}
 use Rattle.pointer.proofs.OctetLaws.{bit_chosen, at_changed, one_more_lem}
-
-pub copy_done : (j : ℕ) (cells out : List ℕ) → length cells ≡ 64 → length out ≡ 64 → j ≡ 64 → take j out ≡ list j (λ i. get_or cells i 0) → out ≡ cells
-copy_done j cells out l k e h = list_done j 64 (λ i. get_or cells i 0) out k e h ∙ sym (list_get_or 64 (λ i. get_or cells i 0) 0 cells l (λ i _. refl))
 
 -- after i entries of the metadata m each bit is what they and the cells show
 pub record Patching (cells m out : List ℕ) (i : ℕ) : Type 0 where
@@ -46,12 +42,12 @@ module _ (cells m : List ℕ) where
       is_bytes 64 (λ q. shown (list a (entry m)) q (at cells q)) out p.long p.below (λ q _. p.bits q ∙ ap (λ x. shown (list x (entry m)) q (at cells q)) e)
 
 -- one byte of cells more
-pub store_more : (wanted mask values cells : List ℕ) (j : ℕ) → let v = bit_xor (get_or wanted j 0) (bit_and (get_or mask j 0) (bit_xor (get_or wanted j 0) (get_or values j 0))) in Below 256 wanted → Below 256 mask → j < length cells
+pub store_more : (wanted mask values cells : List ℕ) (j : ℕ) → let v = bit_xor (get_or wanted j 0) (bit_and (get_or mask j 0) (bit_xor (get_or wanted j 0) (get_or values j 0))) in get_or wanted j 0 < 256 → get_or mask j 0 < 256 → j < length cells
     → take j cells ≡ bytes j (stored wanted mask values) → take (j + 1) (set cells j v) ≡ bytes (j + 1) (stored wanted mask values)
 unfolding stored
 store_more wanted mask values cells j b c l e =
     let v : ℕ = bit_xor (get_or wanted j 0) (bit_and (get_or mask j 0) (bit_xor (get_or wanted j 0) (get_or values j 0))) in
-    let f : v < 256 = xor_lt 8 (get_or wanted j 0) _ (b j) (omega (arith, c j, and_le_l (get_or mask j 0) (bit_xor (get_or wanted j 0) (get_or values j 0)))) in
+    let f : v < 256 = xor_lt 8 (get_or wanted j 0) _ b (omega (arith, and_le_l (get_or mask j 0) (bit_xor (get_or wanted j 0) (get_or values j 0)))) in
     bytes_more j (stored wanted mask values) v cells l e
     (is_word 8 v (λ k. stored wanted mask values (8 * j + k)) f
     (λ k q. bit_chosen (get_or wanted j 0) (get_or mask j 0) (get_or values j 0) k ∙ sym (rw (at_byte mask j k q, at_byte values j k q, at_byte wanted j k q))))

@@ -1,10 +1,11 @@
 -- The steps of decoding: an entry from three bytes, the count, the test of the other entries, and the positions that entries name. Assumes nothing.
 use mathlib.Core.Path.{◌≡◌, refl, sym, ap, ap₂, subst, ◌∙◌}
 use mathlib.Core.Bool.{Bool, true, false, not, cond, ◌&&◌, ◌||◌}
-use mathlib.Core.List.{List, [], ◌∷◌, ◌++◌}
+use mathlib.Core.List.{List}
 use mathlib.Core.Logic.{◌≢◌, ⊎_elim}
-use Prim.Native.Nat.{ℕ, ◌+◌, ◌-◌, ◌*◌, ◌/◌, ◌%◌, ◌^◌, ◌≤◌, ◌<◌}
+use Prim.Native.Nat.{ℕ, zero, suc, ◌+◌, ◌-◌, ◌*◌, ◌/◌, ◌%◌, ◌^◌, ◌≤◌, ◌<◌}
 use native.Mathlib.Nat.{div-one, mod-lt}
+use native.Mathlib.Numerals.{unary_clauses}
 use native.Mathlib.Omega.{arith}
 use borrow.Author.Tests.{le-leb, lt-leb, eq-eqb, ne_eqb}
 use lib.Count.{ones}
@@ -17,12 +18,11 @@ use Rattle.bits.proofs.BoundLaws.{some_in, some_none, sum_ext}
 use Rattle.bits.proofs.BitLaws.{has_low, has_ext, one_shl, ones_bits}
 use Rattle.bits.proofs.ByteLaws.{get_or_zeros, at_zeros, below_set}
 use Rattle.bits.proofs.DigitLaws.{window_bit}
-use Rattle.pointer_promises.specs.Pointer.{size, pointer, replacement, entry, spare, active, unary, idle, formed, held, names, repeats, verdict}
-use Rattle.pointer.specs.Steps.{Marked, Counted}
+use Rattle.pointer_promises.specs.Pointer.{pointer, replacement, entry, spare, active, unary, idle, formed, held, names, repeats}
+use Rattle.pointer.specs.Steps.{Counted, Served, arranged, shared}
 use Rattle.pointer_promises.proofs.EntryLaws.{names_snoc, repeats_snoc}
 use Rattle.pointer_promises.proofs.MetadataLaws.{has_entry, entry_lt, unary_ones, active_full, active_unary}
 use Rattle.pointer_promises.proofs.CodecLaws.{spare_entry}
-use Rattle.pointer_promises.proofs.NumberLaws.{verdict_tests}
 use Rattle.pointer.proofs.OctetLaws.{tenth, set_before, at_changed, one_more_lem}
 
 -- ---- an entry
@@ -75,7 +75,7 @@ count_part n m x last h o l e =
 pub above_more : (P : ℕ → Type 0) (n e : ℕ) → ((k : ℕ) → e ≤ k → k < n → P k) → P (e - 1) → (k : ℕ) → e - 1 ≤ k → k < n → P k
 above_more P n e f p k l h = ⊎_elim (λ b. let i : e - 1 ≡ k = omega arith in subst P i p) (λ b. f k b h) (lt_or_le k e)
 
-module _ (n : ℕ) (m : List ℕ) (a : ℕ) (repeated : Bool) (c : Counted n m a repeated) where
+module _ (n : ℕ) (m : List ℕ) (a : ℕ) (c : Counted n m a) where
   -- entry k is not active and does not hold what it should
   abbrev stray : ℕ → Bool
   stray k = leb a k && not (eqb (entry m k) (idle n a k))
@@ -87,71 +87,89 @@ module _ (n : ℕ) (m : List ℕ) (a : ℕ) (repeated : Bool) (c : Counted n m a
   clean : (x : ℕ) → x ≡ entry m n → not (eqb x 0) ≡ spare n m
   clean x h = ap (λ x. not (eqb x 0)) h ∙ sym (spare_entry n m c.long)
 
-  pub judged_spare : (x : ℕ) → x ≡ entry m n → x ≢ 0 → 3 ≡ verdict n m
-  judged_spare x h d = verdict_tests n m true _ _ (sym (ap not (ne_eqb x 0 d)) ∙ clean x h) refl refl
+  pub arranged_spare : (x : ℕ) → x ≡ entry m n → x ≢ 0 → 3 ≡ arranged n m
+  arranged_spare x h d = ap (λ t. cond t 3 (cond (formed n m) 0 4)) (sym (ap not (ne_eqb x 0 d)) ∙ clean x h)
 
   module _ (x : ℕ) (h : x ≡ entry m n) (z : x ≡ 0) where
     unspared : false ≡ spare n m
     unspared = sym (ap not (eq-eqb x 0 z)) ∙ clean x h
 
-    pub judged_stray : (e : ℕ) → a ≤ e → e < n → entry m e ≢ idle n a e → 4 ≡ verdict n m
-    judged_stray e l k d =
-        verdict_tests n m false false _ unspared
-        (sym (ap not (some_in n stray e k (and_in (le-leb a e l) (ap not (ne_eqb (entry m e) (idle n a e) d))))) ∙ well) refl
+    pub arranged_stray : (e : ℕ) → a ≤ e → e < n → entry m e ≢ idle n a e → 4 ≡ arranged n m
+    arranged_stray e l k d =
+        ap₂ (λ s t. cond s 3 (cond t 0 4)) unspared
+        (sym (ap not (some_in n stray e k (and_in (le-leb a e l) (ap not (ne_eqb (entry m e) (idle n a e) d))))) ∙ well)
 
-    pub judged_formed : ((k : ℕ) → a ≤ k → k < n → entry m k ≡ idle n a k) → (t : Bool) → repeated ≡ t → cond t 5 0 ≡ verdict n m
-    judged_formed i t r =
-        verdict_tests n m false true t unspared
+    pub arranged_well : ((k : ℕ) → a ≤ k → k < n → entry m k ≡ idle n a k) → 0 ≡ arranged n m
+    arranged_well i =
+        ap₂ (λ s t. cond s 3 (cond t 0 4)) unspared
         (sym
         (ap not
         (some_none n stray (λ k q.
-        ⊎_elim (λ d. rw (lt-leb a k d)) (λ d. rw (le-leb a k d, i k d q, eqb_same (idle n a k))) (lt_or_le k a)))) ∙ well) (sym r ∙ c.twice)
+        ⊎_elim (λ d. rw (lt-leb a k d)) (λ d. rw (le-leb a k d, i k d q, eqb_same (idle n a k))) (lt_or_le k a)))) ∙ well)
 
 -- ---- the positions that the entries name
 
 -- after i entries of the metadata m
-pub record Marking (m : List ℕ) (i : ℕ) (repeated : Bool) (served : List ℕ) : Type 0 where
+pub record Marking (m : List ℕ) (i : ℕ) (served : List ℕ) : Type 0 where
   pub long : length served ≡ 64
-  pub twice : repeated ≡ repeats (list i (entry m))
+  pub single : repeats (list i (entry m)) ≡ false
   pub bits : (q : ℕ) → at served q ≡ names (list i (entry m)) q
   pub below : Below 256 served
 
 module _ (m : List ℕ) where
-  pub mark_start : Marking m 0 false (replicate 64 0)
+  pub mark_start : Marking m 0 (replicate 64 0)
   unfolding names repeats list
-  mark_start = record { long = length-replicate {A = ℕ} 64 0; twice = refl; bits = at_zeros 64; below = λ i. rw (get_or_zeros 64 i) (omega arith) }
+  mark_start = record { long = length-replicate {A = ℕ} 64 0; single = refl; bits = at_zeros 64; below = λ i. rw (get_or_zeros 64 i) (omega arith) }
 
-  -- p is the position that entry i names, marked as by an entry that shows a 1 there
-  pub mark_more : (i e v : ℕ) (repeated : Bool) (served : List ℕ) → let p = e % 512 in e ≡ entry m i → v < 256
-      → ((j : ℕ) → has v j ≡ cond (eqb (pointer (p + 512) % 8) j) (replacement (p + 512)) (has (get_or served (p / 8) 0) j)) → Marking m i repeated served
-      → Marking m (i + 1) (repeated || eqb (get_or served (p / 8) 0) v) (set served (p / 8) v)
-  unfolding at
-  mark_more i e v repeated served r f h c =
-      let p : ℕ = e % 512 in
-      let k : length served ≡ 64 = c.long in
-      let o : pointer (p + 512) % 8 ≡ p % 8 = omega arith in
-      let u : (p + 512) / 512 ≡ 1 = omega arith in
-      let marks : (j : ℕ) → has v j ≡ cond (eqb (p % 8) j) true (has (get_or served (p / 8) 0) j) = λ j. h j ∙ ap₂ (λ k t. cond (eqb k j) t (has (get_or served (p / 8) 0) j)) o (sym (tenth (p + 512)) ∙ ap (λ x. eqb (x % 2) 1) u) in
-      let s : list (i + 1) (entry m) ≡ list i (entry m) ++ (e ∷ []) = one_more_lem m i e r in
-      record {
-        long = length-set served (p / 8) v ∙ k;
-        twice = ap₂ ◌||◌ c.twice (set_before (get_or served (p / 8) 0) v (p % 8) (c.below (p / 8)) f marks ∙ c.bits p) ∙ sym (ap repeats s ∙ repeats_snoc (list i (entry m)) e);
-        bits = λ q. at_changed served p q v true (omega arith) marks ∙ ap (cond (eqb p q) true) (c.bits q) ∙ sym (ap (λ l. names l q) s ∙ names_snoc (list i (entry m)) e q);
-        below = below_set 256 served (p / 8) v c.below f;
-      }
+  -- what is named twice by i entries is so by more
+  repeats_more : (i k : ℕ) → repeats (list i (entry m)) ≡ true → repeats (list (i + k) (entry m)) ≡ true
+  repeats_more i zero h = simp unary_clauses h
+  repeats_more i (suc k) h =
+      let s : i + suc k ≡ i + k + 1 = omega arith in
+      ap (λ x. repeats (list x (entry m))) s ∙ ap repeats (one_more_lem m (i + k) (entry m (i + k)) refl) ∙ repeats_snoc (list (i + k) (entry m)) (entry m (i + k))
+      ∙ ap (λ t. t || names (list (i + k) (entry m)) (pointer (entry m (i + k)))) (repeats_more i k h)
 
-  pub mark_done : (i a : ℕ) (repeated : Bool) (served : List ℕ) → i ≡ a → Marking m i repeated served → Marked (list a (entry m)) repeated served
-  mark_done i a repeated served e p = rw (← e) (record { twice = p.twice; bits = p.bits })
+  -- v is the byte b of the position p that entry i names, marked as by an entry that shows a 1 there
+  module _ (i e v : ℕ) (served : List ℕ) (r : e ≡ entry m i) (f : v < 256)
+      (h : (j : ℕ) → has v j ≡ cond (eqb (pointer (e % 512 + 512) % 8) j) (replacement (e % 512 + 512)) (has (get_or served (e % 512 / 8) 0) j))
+      (c : Marking m i served) where
+    marks : (j : ℕ) → has v j ≡ cond (eqb (e % 512 % 8) j) true (has (get_or served (e % 512 / 8) 0) j)
+    marks j =
+        let p : ℕ = e % 512 in
+        let o : pointer (p + 512) % 8 ≡ p % 8 = omega arith in
+        let u : (p + 512) / 512 ≡ 1 = omega arith in
+        h j ∙ ap₂ (λ k t. cond (eqb k j) t (has (get_or served (p / 8) 0) j)) o (sym (tenth (p + 512)) ∙ ap (λ x. eqb (x % 2) 1) u)
 
--- ---- all of it
+    repeats_next : repeats (list (i + 1) (entry m)) ≡ eqb (get_or served (e % 512 / 8) 0) v
+    unfolding at
+    repeats_next =
+        let p : ℕ = e % 512 in
+        ap repeats (one_more_lem m i e r) ∙ repeats_snoc (list i (entry m)) e ∙ ap (λ t. t || names (list i (entry m)) p) c.single
+        ∙ sym (set_before (get_or served (p / 8) 0) v (p % 8) (c.below (p / 8)) f marks ∙ c.bits p)
 
-module _ (n : ℕ) (m : List ℕ) (a : ℕ) (c : a ≡ active n m) (l : a ≤ n) (repeated : Bool) (served : List ℕ) (p : Marked (list a (entry m)) repeated served) where
-  is_held : list a (entry m) ≡ held n m
+    pub mark_more : get_or served (e % 512 / 8) 0 ≢ v → Marking m (i + 1) (set served (e % 512 / 8) v)
+    mark_more d =
+        let p : ℕ = e % 512 in
+        let k : length served ≡ 64 = c.long in
+        record {
+          long = length-set served (p / 8) v ∙ k;
+          single = repeats_next ∙ ne_eqb (get_or served (p / 8) 0) v d;
+          bits = λ q. at_changed served p q v true (omega arith) marks ∙ ap (cond (eqb p q) true) (c.bits q)
+              ∙ sym (ap (λ l. names l q) (one_more_lem m i e r) ∙ names_snoc (list i (entry m)) e q);
+          below = below_set 256 served (p / 8) v c.below f;
+        }
+
+    pub mark_twice : (n a : ℕ) → Counted n m a → i < a → get_or served (e % 512 / 8) 0 ≡ v → 5 ≡ shared n m
+    unfolding held
+    mark_twice n a k l t =
+        let o : i + 1 + (a - (i + 1)) ≡ a = omega arith in
+        let u : repeats (list (i + 1) (entry m)) ≡ true = repeats_next ∙ eq-eqb (get_or served (e % 512 / 8) 0) v t in
+        ap (λ t. cond t 5 0) (sym (repeats_more (i + 1) (a - (i + 1)) u) ∙ ap (λ x. repeats (list x (entry m))) (o ∙ k.count))
+
+  pub mark_none : (n a i : ℕ) (served : List ℕ) → Counted n m a → i ≡ a → Marking m i served → 0 ≡ shared n m
   unfolding held
-  is_held = ap (λ x. list x (entry m)) c
+  mark_none n a i served k e c = ap (λ t. cond t 5 0) (sym c.single ∙ ap (λ x. repeats (list x (entry m))) (e ∙ k.count))
 
-  pub counted : (1 ≤ n) × (n ≤ 10) × (length m ≡ size n) → Counted n m a repeated
-  counted s = record { least = s.0; most = s.1; long = s.2; count = c; few = l; twice = p.twice ∙ ap repeats is_held }
-
-  pub named : (q : ℕ) → at served q ≡ names (held n m) q
-  named q = p.bits q ∙ ap (λ l. names l q) is_held
+  pub mark_done : (n a i : ℕ) (served : List ℕ) → Counted n m a → i ≡ a → Marking m i served → Served n m served
+  unfolding held
+  mark_done n a i served k e c = record { bits = λ p. c.bits p ∙ ap (λ x. names (list x (entry m)) p) (e ∙ k.count) }

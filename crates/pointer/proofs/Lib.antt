@@ -3,4 +3,5 @@ pub mod CellLaws
 pub mod DecodeLaws
 pub mod PlanLaws
 pub mod EncodeLaws
+pub mod RefusalLaws
 pub mod RowLaws

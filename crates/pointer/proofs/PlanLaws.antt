@@ -1,91 +1,36 @@
 -- The loop that plans: byte by byte, and from one unserved position to the next. Assumes nothing.
 use mathlib.Core.Path.{◌≡◌, sym, ap, subst, ◌∙◌}
-use mathlib.Core.Bool.{Bool, true, false, not, xor, ◌&&◌}
+use mathlib.Core.Bool.{Bool, true, false, not, ◌&&◌, and-true, and-false}
 use mathlib.Core.List.{List, [], ◌∷◌, ◌++◌, append-nil, append_assoc}
-use mathlib.Core.Logic.{◌≢◌, ⊎_elim}
-use Prim.Native.Nat.{ℕ, ◌+◌, ◌-◌, ◌*◌, ◌/◌, ◌%◌, ◌^◌, ◌≤◌, ◌<◌}
+use mathlib.Core.Logic.{⊎_elim}
+use Prim.Native.Nat.{ℕ, ◌+◌, ◌-◌, ◌*◌, ◌≤◌, ◌<◌}
 use native.Mathlib.Omega.{arith}
 use native.Mathlib.Numerals.{add-one}
-use borrow.Author.Tests.{ltb-true, lt-ltb, le-ltb, le-leb}
-use lib.Bits.{bit_and, bit_xor}
-use lib.Count.{count_trailing_zeros}
-use lib.Dec.{ltb, leb}
+use borrow.Author.Tests.{leb-true, le-leb, lt-leb, eq-eqb, ne_eqb}
+use lib.Dec.{eqb, leb}
 use lib.ListN.{length, get_or, set, length-append}
-use Rattle.bits.specs.Bits.{has, at, Below}
-use Rattle.bits.proofs.TestLaws.{clash, and_in, and_left, lt_or_le}
-use Rattle.bits.proofs.BitLaws.{has_zero, has_high, has_shr, lowest_set, below_lowest}
+use Rattle.bits.specs.Bits.{has}
+use Rattle.bits.proofs.TestLaws.{and_left, and_right, lt_or_le}
+use Rattle.bits.proofs.BitLaws.{has_zero}
+use Rattle.bits.proofs.ByteLaws.{at_byte}
+use Rattle.words.specs.SetBits.{TakesLowest}
+use Rattle.words.proofs.SetBitsLaws.{place_below}
 use Rattle.pointer_promises.specs.Pointer.{positions, renewed}
-use Rattle.pointer.specs.Steps.{unserved_at, unserved_from, Noted, Planned}
-use Rattle.pointer.proofs.OctetLaws.{bit_unserved}
+use Rattle.pointer.specs.Steps.{unserved_at, unserved_in, Noted, TooMany}
 use Rattle.pointer.proofs.EncodeLaws.{noted_more}
 use Rattle.pointer_promises.proofs.PositionLaws.{positions_take, positions_none, positions_grow}
 
--- ---- what is found in a byte
-
--- p is the first position from q on that passes f, and stands in q's byte
-pub record Next (f : ℕ → Bool) (q p : ℕ) : Type 0 where
+-- p is the first position from q on that passes f
+record Next (f : ℕ → Bool) (q p : ℕ) : Type 0 where
   pub after : q ≤ p
-  pub within : p < 8 * (q / 8) + 8
+  pub within : p < 512
   pub passes : f p ≡ true
   pub first : (r : ℕ) → q ≤ r → r < p → f r ≡ false
-
--- the bit of position q + k, in q's byte
-at_from : (bs : List ℕ) (q k : ℕ) → q % 8 + k < 8 → at bs (q + k) ≡ has (get_or bs (q / 8) 0) (q % 8 + k)
-unfolding at
-at_from bs q k h =
-    let d : (q + k) / 8 ≡ q / 8 = omega arith in
-    let r : (q + k) % 8 ≡ q % 8 + k = omega arith in
-    rw (d, r)
-
--- `u >> (q % 8)`, where u is the byte of unserved positions
-pub left_bit : (wanted mask values : List ℕ) (s q k : ℕ) → Below 256 mask
-    → has (bit_xor (bit_and (get_or mask (q / 8) 0) (bit_xor (get_or wanted (q / 8) 0) (get_or values (q / 8) 0))) (bit_and (bit_and (get_or mask (q / 8) 0) (bit_xor (get_or wanted (q / 8) 0) (get_or values (q / 8) 0))) s) / 2 ^ (q % 8)) k
-    ≡ unserved_from wanted mask values s q k
-left_bit wanted mask values s q k b =
-    has_shr _ (q % 8) k ∙ bit_unserved (get_or wanted i 0) (get_or mask i 0) (get_or values i 0) s (q % 8 + k)
-    ∙ ⊎_elim within past (lt_or_le (q % 8 + k) 8)
-  where
-    i : ℕ
-    i = q / 8
-
-    within : q % 8 + k < 8 → has (get_or mask i 0) (q % 8 + k) && xor (has (get_or wanted i 0) (q % 8 + k)) (has (get_or values i 0) (q % 8 + k)) && not (has s (q % 8 + k)) ≡ unserved_from wanted mask values s q k
-    within h = sym (rw (lt-ltb (q % 8 + k) 8 h, at_from mask q k h, at_from wanted q k h, at_from values q k h))
-
-    past : 8 ≤ q % 8 + k → has (get_or mask i 0) (q % 8 + k) && xor (has (get_or wanted i 0) (q % 8 + k)) (has (get_or values i 0) (q % 8 + k)) && not (has s (q % 8 + k)) ≡ unserved_from wanted mask values s q k
-    past h = rw (le-ltb (q % 8 + k) 8 h, has_high 8 (get_or mask i 0) (q % 8 + k) (b i) h)
-
--- x is what is left of q's byte
-module _ (wanted mask values served : List ℕ) (q x : ℕ) (bits : (k : ℕ) → has x k ≡ unserved_from wanted mask values (get_or served (q / 8) 0) q k) where
-  in_byte : (p : ℕ) → q ≤ p → p < 8 * (q / 8) + 8 → unserved_at wanted mask values served p ≡ has x (p - q)
-  in_byte p l h =
-      let k : ℕ = p - q in
-      let e : p ≡ q + k = omega arith in
-      let w : q % 8 + k < 8 = omega arith in
-      ap (unserved_at wanted mask values served) e
-      ∙ ap (λ t. at mask (q + k) && xor (at wanted (q + k)) (at values (q + k)) && not t) (at_from served q k w)
-      ∙ sym (bits k ∙ ap (λ t. t && (at mask (q + k) && xor (at wanted (q + k)) (at values (q + k)) && not (has (get_or served (q / 8) 0) (q % 8 + k)))) (lt-ltb (q % 8 + k) 8 w))
-
-  pub none_left : x ≡ 0 → (p : ℕ) → q ≤ p → p < 8 * (q / 8) + 8 → unserved_at wanted mask values served p ≡ false
-  none_left z p l h = in_byte p l h ∙ ap (λ y. has y (p - q)) z ∙ has_zero (p - q)
-
-  pub next_is : x < 256 → x ≢ 0 → Next (unserved_at wanted mask values served) q (q + count_trailing_zeros 8 x)
-  next_is small d =
-      let t : ℕ = count_trailing_zeros 8 x in
-      let yes : has x t ≡ true = lowest_set 8 x small d in
-      let near : q % 8 + t < 8 = ltb-true (q % 8 + t) 8 (and_left (ltb (q % 8 + t) 8) _ (sym (bits t) ∙ yes)) in
-      let w : q + t < 8 * (q / 8) + 8 = omega arith in
-      let o : q + t - q ≡ t = omega arith in
-      record {
-        after = omega arith;
-        within = w;
-        passes = in_byte (q + t) (omega arith) w ∙ ap (has x) o ∙ yes;
-        first = λ r l h. in_byte r l (omega arith) ∙ below_lowest 8 x (r - q) (omega arith);
-      }
 
 -- ---- the loop: ds notes the entries l and one for each position below q that passes f, a in all
 
 pub record Planning (n : ℕ) (wanted : List ℕ) (f : ℕ → Bool) (l ds : List ℕ) (a q : ℕ) : Type 0 where
-  pub few : a ≤ n + 1
+  pub few : a ≤ n
   pub reach : q ≤ 512
   pub count : a ≡ length (l ++ positions q f)
   pub noted : Noted wanted ds (l ++ positions q f)
@@ -101,29 +46,104 @@ module _ (n : ℕ) (wanted : List ℕ) (f : ℕ → Bool) (l : List ℕ) where
     moved : (r : ℕ) → r ≤ 512 → l ++ positions q f ≡ l ++ positions r f → Planning n wanted f l ds a r
     moved r h e = record { few = c.few; reach = h; count = c.count ∙ ap length e; noted = subst (Noted wanted ds) e c.noted }
 
-    pub plan_skip : q < 512 → ((p : ℕ) → q ≤ p → p < 8 * (q / 8) + 8 → f p ≡ false) → Planning n wanted f l ds a (8 * (q / 8) + 8)
-    plan_skip h d = moved (8 * (q / 8) + 8) (omega arith) (ap (λ ps. l ++ ps) (sym (positions_none f q (8 * (q / 8) + 8) (omega arith) d)))
+    module _ (p : ℕ) (s : Next f q p) where
+      -- the positions up to p are those below q, and p
+      upto : l ++ positions q f ++ (p ∷ []) ≡ l ++ positions (p + 1) f
+      upto =
+          append_assoc l (positions q f) (p ∷ [])
+          ∙ ap (λ ps. l ++ ps) (sym (ap (λ x. positions x f) (add-one p) ∙ positions_take f p s.passes ∙ ap (λ ps. ps ++ (p ∷ [])) (positions_none f q p s.after s.first)))
 
-    pub plan_more : (p v : ℕ) → q < 512 → Next f q p → a ≤ n → n ≤ 10 → v ≡ renewed wanted p → Planning n wanted f l (set ds (a + 1) v) (a + 1) (p + 1)
-    plan_more p v h s k most e =
-        -- the positions up to p are those below q, and p
-        let upto : l ++ positions q f ++ (p ∷ []) ≡ l ++ positions (p + 1) f =
-        append_assoc l (positions q f) (p ∷ [])
-        ∙ ap (λ ps. l ++ ps) (sym (ap (λ x. positions x f) (add-one p) ∙ positions_take f p s.passes ∙ ap (λ ps. ps ++ (p ∷ [])) (positions_none f q p s.after s.first))) in
+      length_upto : a + 1 ≡ length (l ++ positions (p + 1) f)
+      length_upto = sym (ap length (sym upto) ∙ length-append (l ++ positions q f) (p ∷ []) ∙ ap (λ x. x + 1) (sym c.count))
+
+      plan_more : (v : ℕ) → a + 1 ≤ n → n ≤ 10 → v ≡ renewed wanted p → Planning n wanted f l (set ds (a + 1) v) (a + 1) (p + 1)
+      plan_more v k most e = record {
+        few = k;
+        reach = omega (arith, s.within);
+        count = length_upto;
+        noted = subst (Noted wanted (set ds (a + 1) v)) upto (noted_more wanted ds (l ++ positions q f) a p v (sym c.count) (omega arith) e c.noted);
+      }
+
+      plan_over : n < a + 1 → TooMany n f l
+      plan_over k = record {
+        over =
+            omega (arith, length_upto, length-append l (positions (p + 1) f), length-append l (positions 512 f), positions_grow f (p + 1) 512 (omega (arith, s.within)));
+      }
+
+-- ---- the loop within byte i: rest has the positions from q on that pass f
+
+pub record Sifting (n : ℕ) (wanted : List ℕ) (f : ℕ → Bool) (l ds : List ℕ) (a i rest : ℕ) : Type 0 where
+  pub q : ℕ
+  pub after : 8 * i ≤ q
+  pub within : q ≤ 8 * i + 8
+  pub small : rest < 256
+  pub bits : (k : ℕ) → k < 8 → has rest k ≡ leb q (8 * i + k) && f (8 * i + k)
+  pub upto : Planning n wanted f l ds a q
+
+module _ (n : ℕ) (wanted mask values served l ds : List ℕ) (a i x : ℕ) where
+  pub sift_start : Planning n wanted (unserved_at wanted mask values served) l ds a (8 * i) → x < 256
+      → ((k : ℕ) → has x k ≡ unserved_in wanted mask values (get_or served i 0) i k) → Sifting n wanted (unserved_at wanted mask values served) l ds a i x
+  sift_start c s h = record {
+    q = 8 * i;
+    after = omega arith;
+    within = omega arith;
+    small = s;
+    bits = λ k b. h k ∙ sym (rw (le-leb (8 * i) (8 * i + k) (omega arith), at_byte mask i k b, at_byte wanted i k b, at_byte values i k b, at_byte served i k b));
+    upto = c;
+  }
+
+module _ (n : ℕ) (wanted : List ℕ) (f : ℕ → Bool) (l ds : List ℕ) (a i rest : ℕ) (c : Sifting n wanted f l ds a i rest) (in_row : i < 64) where
+  -- what is asked of the positions from q on
+  from_q : (k : ℕ) → k < 8 → c.q ≤ 8 * i + k → has rest k ≡ f (8 * i + k)
+  from_q k y h = c.bits k y ∙ ap (λ t. t && f (8 * i + k)) (le-leb c.q (8 * i + k) h)
+
+  unset : (p : ℕ) → c.q ≤ p → p < 8 * i + 8 → has rest (p - 8 * i) ≡ false → f p ≡ false
+  unset p h b z =
+      let k : ℕ = p - 8 * i in
+      let e : p ≡ 8 * i + k = omega (arith, c.after) in
+      ap f e ∙ sym (from_q k (omega (arith, c.after)) (omega arith)) ∙ z
+
+  pub sift_done : rest ≡ 0 → Planning n wanted f l ds a (8 * (i + 1))
+  sift_done z =
+      moved n wanted f l ds a c.q c.upto (8 * (i + 1)) (omega arith)
+      (ap (λ ps. l ++ ps) (sym (positions_none f c.q (8 * (i + 1)) (omega (arith, c.within)) (λ p h b. unset p h (omega arith) (ap (λ x. has x (p - 8 * i)) z ∙ has_zero (p - 8 * i))))))
+
+  -- the next place is t, after which y is left
+  module _ (t y : ℕ) (take : TakesLowest rest t y) where
+    low : t < 8
+    low = place_below 8 rest t y c.small take
+
+    next : Next f c.q (8 * i + t)
+    next =
+        let both : leb c.q (8 * i + t) && f (8 * i + t) ≡ true = sym (c.bits t low) ∙ take.set in
         record {
-          few = omega arith;
-          reach = omega (arith, s.within);
-          count = sym (ap length (sym upto) ∙ length-append (l ++ positions q f) (p ∷ []) ∙ ap (λ x. x + 1) (sym c.count));
-          noted = subst (Noted wanted (set ds (a + 1) v)) upto (noted_more wanted ds (l ++ positions q f) a p v (sym c.count) (omega arith) e c.noted);
+          after = leb-true c.q (8 * i + t) (and_left (leb c.q (8 * i + t)) (f (8 * i + t)) both);
+          within = omega (arith, low);
+          passes = and_right (leb c.q (8 * i + t)) (f (8 * i + t)) both;
+          first = λ r h b. unset r h (omega (arith, low)) (take.lowest (r - 8 * i) (omega (arith, c.after)));
         }
 
-    pub plan_done : ltb q 512 && leb a n ≡ false → Planned n wanted f l a ds
-    plan_done t =
+    pub sift_over : n < a + 1 → TooMany n f l
+    sift_over h = plan_over n wanted f l ds a c.q c.upto (8 * i + t) next h
+
+    pub sift_more : (v : ℕ) → a + 1 ≤ n → n ≤ 10 → v ≡ renewed wanted (8 * i + t) → Sifting n wanted f l (set ds (a + 1) v) (a + 1) i y
+    sift_more v k most e =
         record {
-          over = λ h. omega (arith, c.count, length-append l (positions q f), length-append l (positions 512 f), positions_grow f q 512 c.reach);
-          count = λ h. (all h).count;
-          noted = λ h. (all h).noted;
+          q = 8 * i + t + 1;
+          after = omega arith;
+          within = omega (arith, low);
+          small = omega (arith, take.fewer, c.small);
+          bits = λ k b. take.others k ∙ ⊎_elim (up_to k) (past k b) (lt_or_le k (t + 1));
+          upto = plan_more n wanted f l ds a c.q c.upto (8 * i + t) next v k most e;
         }
       where
-        all : a ≤ n → Planning n wanted f l ds a 512
-        all h = ⊎_elim (λ k. clash (and_in (lt-ltb q 512 k) (le-leb a n h)) t) (λ k. let e : q ≡ 512 = omega (arith, c.reach) in moved 512 (omega arith) (ap (λ x. l ++ positions x f) e)) (lt_or_le q 512)
+        up_to : (k : ℕ) → k < t + 1 → has rest k && not (eqb k t) ≡ leb (8 * i + t + 1) (8 * i + k) && f (8 * i + k)
+        up_to k h =
+            ⊎_elim (λ d. ap (λ u. u && not (eqb k t)) (take.lowest k d))
+            (λ d. let o : k ≡ t = omega arith in ap (λ u. has rest k && not u) (eq-eqb k t o) ∙ and-false (has rest k)) (lt_or_le k t)
+            ∙ sym (ap (λ u. u && f (8 * i + k)) (lt-leb (8 * i + t + 1) (8 * i + k) (omega arith)))
+
+        past : (k : ℕ) → k < 8 → t + 1 ≤ k → has rest k && not (eqb k t) ≡ leb (8 * i + t + 1) (8 * i + k) && f (8 * i + k)
+        past k b h =
+            ap (λ u. has rest k && not u) (ne_eqb k t (λ o. absurd (omega arith))) ∙ and-true (has rest k) ∙ from_q k b (omega (arith, next.after))
+            ∙ sym (ap (λ u. u && f (8 * i + k)) (le-leb (8 * i + t + 1) (8 * i + k) (omega arith)))

@@ -1,167 +1,151 @@
 -- From what is decoded and planned to the promises of the two calls. Assumes nothing.
 use mathlib.Core.Path.{◌≡◌, refl, sym, ap, ap₂, ◌∙◌}
-use mathlib.Core.Bool.{Bool, true, false, not, xor, cond, ◌&&◌, ◌||◌}
+use mathlib.Core.Bool.{Bool, true, false, not, xor, cond, ◌&&◌}
 use mathlib.Core.List.{List, ◌++◌, map}
-use mathlib.Core.Logic.{⊎_elim}
-use Prim.Native.Nat.{ℕ, zero, suc, ◌+◌, ◌-◌, ◌≤◌, ◌<◌}
+use mathlib.Core.Logic.{◌⊎◌, ⊎_elim}
+use Prim.Native.Nat.{ℕ, ◌+◌, ◌-◌, ◌≤◌, ◌<◌}
 use native.Mathlib.Omega.{arith}
-use borrow.Author.Tests.{ltb-true, ltb-false, eqb-true, lt-ltb, le-ltb}
+use borrow.Author.Tests.{eqb-true, lt-ltb, le-ltb}
 use lib.Dec.{eqb, ltb}
 use lib.ListN.{length, length-append, length-map}
 use Rattle.bits.specs.Bits.{list, at, bytes, Below}
-use Rattle.bits.proofs.TestLaws.{and_left, and_right, or_out, or_neither}
-use Rattle.pointer_promises.specs.Pointer.{size, entry, active, held, shown, unserved, positions, renewed, after, active_after, stored, or_else, measured, verdict, read_number, needed, write_judged, write_number}
+use Rattle.bits.proofs.TestLaws.{and_right}
+use Rattle.pointer_promises.specs.Pointer.{size, entry, active, spare, formed, held, repeats, shown, unserved, positions, renewed, after, active_after, stored, or_else, measured, verdict, read_number, needed, write_judged, write_number}
 use Rattle.pointer_promises.specs.Promises.{Read, Write}
-use Rattle.pointer.specs.Steps.{digit, digit_bit, Digits, Sized, Marked, Judged, unserved_at, Planned, Made}
+use Rattle.pointer.specs.Steps.{digit, digit_bit, Digits, Counted, arranged, shared, Found, unserved_at, Planned, TooMany, Made}
+use Rattle.refusals.specs.Numbers.{number}
+use Rattle.refusals.specs.declared.Refusal.{Refusal}
 use Rattle.pointer_promises.proofs.PositionLaws.{length_positions, positions_ext}
 use Rattle.pointer_promises.proofs.MetadataLaws.{length_held}
-use Rattle.pointer_promises.proofs.NumberLaws.{measured_low, measured_high, measured_in, measured_zero}
+use Rattle.pointer_promises.proofs.NumberLaws.{measured_low, measured_high}
 use Rattle.pointer_promises.proofs.WrittenLaws.{after_below}
 use Rattle.pointer_promises.proofs.Demands.{read_refused_lem, read_accepted, write_refused, write_accepted}
-use Rattle.pointer.proofs.DecodeLaws.{named}
 use Rattle.pointer.proofs.EncodeLaws.{digits_below, encoded}
+use Rattle.refusals.proofs.NumberLaws.{not_zero}
+use Rattle.pointer.proofs.RefusalLaws.{at_first, at_second}
 
 -- ---- n, the lengths and the metadata
 
-module _ (n : ℕ) (fixed : Bool) where
-  pub measured_out : (m : ℕ) → ltb n 1 || ltb 10 n ≡ true → 1 ≡ measured n fixed m
-  measured_out m h = ⊎_elim (λ t. measured_low n fixed m (ltb-true n 1 t)) (λ t. measured_high n fixed m (ltb-true 10 n t)) (or_out (ltb n 1) (ltb 10 n) h)
+pub measured_out : (n : ℕ) (fixed : Bool) (m : ℕ) → (n < 1) ⊎ (10 < n) → 1 ≡ measured n fixed m
+measured_out n fixed m h = ⊎_elim (measured_low n fixed m) (measured_high n fixed m) h
 
-  pub in_range_lem : ltb n 1 || ltb 10 n ≡ false → (1 ≤ n) × (n ≤ 10)
-  in_range_lem h = let s = or_neither (ltb n 1) (ltb 10 n) h in (ltb-false n 1 s.0, ltb-false 10 n s.1)
+-- ---- what is wrong with the metadata
 
-  pub measured_by : (m : ℕ) (t : Bool) → ltb n 1 || ltb 10 n ≡ false → fixed && eqb m (size n) ≡ t → cond t 0 2 ≡ measured n fixed m
-  measured_by m t h e = let s = in_range_lem h in measured_in n fixed m t s.0 s.1 (sym e)
+-- the verdict in its two parts
+pub verdict_parts : (n : ℕ) (m : List ℕ) → or_else (arranged n m) (shared n m) ≡ verdict n m
+unfolding verdict
+verdict_parts n m = go (spare n m) (formed n m)
+  where
+    go : (s t : Bool) → or_else (cond s 3 (cond t 0 4)) (cond (repeats (held n m)) 5 0) ≡ cond s 3 (cond t (cond (repeats (held n m)) 5 0) 4)
+    go true t = refl
+    go false true = refl
+    go false false = refl
 
--- a number that is not above 0
-pub none : {k : ℕ} → k ≤ 0 → k ≡ 0
-none h = omega arith
+-- what is wrong with metadata of the right length, or nothing
+module _ (n : ℕ) (fixed : Bool) (m : List ℕ) (z : 0 ≡ measured n fixed (length m)) where
+  pub found_arranged : (e : Refusal) → number e ≡ arranged n m → number e ≡ or_else (measured n fixed (length m)) (verdict n m)
+  found_arranged e h = at_second (number e) _ _ z (at_first e (arranged n m) (shared n m) h ∙ verdict_parts n m)
 
-first_number : (j k : ℕ) → 0 < j → or_else j k ≡ j
-first_number zero k h = absurd (omega arith)
-first_number (suc j) k h = refl
+  pub found_shared : (k : ℕ) → 0 ≡ arranged n m → k ≡ shared n m → k ≡ or_else (measured n fixed (length m)) (verdict n m)
+  found_shared k y h = at_second k _ _ z (at_second k (arranged n m) (shared n m) y h ∙ verdict_parts n m)
 
-module _ (n : ℕ) (fixed : Bool) (m : List ℕ) (j : ℕ) (e : j ≡ measured n fixed (length m)) where
-  judges : or_else j (verdict n m) ≡ or_else (measured n fixed (length m)) (verdict n m)
-  judges = ap (λ x. or_else x (verdict n m)) e
+-- ---- the row that is found
 
-  pub row_unmeasured : 0 < j → (served : List ℕ) → Judged n fixed m j 0 served
-  row_unmeasured h served = record { judged = sym (first_number j (verdict n m) h) ∙ judges; found = λ z. absurd (omega arith) }
-
-  pub row_sized : j ≡ 0 → (1 ≤ n) × (n ≤ 10) × (length m ≡ size n)
-  row_sized z = let s = measured_zero n fixed (length m) (sym e ∙ z) in (s.least, s.most, s.long)
-
-  pub row_decoded : j ≡ 0 → (k a : ℕ) (repeated : Bool) (served : List ℕ) → a ≡ active n m → a ≤ n → Marked (list a (entry m)) repeated served → k ≡ verdict n m → Judged n fixed m k a served
-  row_decoded z k a repeated served c l p h =
-      let s = measured_zero n fixed (length m) (sym e ∙ z) in
-      record {
-        judged = h ∙ ap (λ x. or_else x (verdict n m)) (sym z) ∙ judges;
-        found = λ _. record { least = s.least; most = s.most; sized = s.sized; long = s.long; count = c; few = l; bits = named n m a c l repeated served p };
-      }
+module _ (n : ℕ) (fixed : Bool) (m : List ℕ) (n' : ℕ) (m' : List ℕ) (a : ℕ) (served : List ℕ) (c : Counted n' m' a) (f : Found n fixed m n' m' served) where
+  pub is_held : list a (entry m') ≡ held n m
+  unfolding held
+  is_held = ap (λ x. list x (entry m')) c.count ∙ ap₂ held f.entries f.bytes
 
 -- ---- a read
 
-module _ (n : ℕ) (cells m out : List ℕ) (k a : ℕ) (served : List ℕ) (d : Judged n (eqb (length cells) 64 && eqb (length out) 64) m k a served) where
-  pub read_refusal : 0 < k → Read n cells m out (record { number = k }) out
+module _ (n : ℕ) (cells m out : List ℕ) where
+  pub read_refusal : (e : Refusal) (k : ℕ) → k ≡ number e → number e ≡ or_else (measured n (eqb (length cells) 64 && eqb (length out) 64) (length m)) (verdict n m)
+      → Read n cells m out (record { number = k }) out
   unfolding read_number
-  read_refusal h = read_refused_lem n k cells m out d.judged (omega arith)
+  read_refusal e k h d = read_refused_lem n k cells m out (h ∙ d) (λ z. not_zero e (sym h ∙ z))
 
-  pub read_sized_lem : k ≡ 0 → (length cells ≡ 64) × (length out ≡ 64)
-  read_sized_lem z =
-      let s = d.found z in (
-        eqb-true (length cells) 64 (and_left (eqb (length cells) 64) (eqb (length out) 64) s.sized),
-        eqb-true (length out) 64 (and_right (eqb (length cells) 64) (eqb (length out) 64) s.sized),
-      )
-
-  pub read_shown : k ≡ 0 → (out' : List ℕ) → out' ≡ bytes 64 (λ p. shown (list a (entry m)) p (at cells p)) → Read n cells m out (record { number = 0 }) out'
-  unfolding read_number held
-  read_shown z out' h = read_accepted n cells m out out' (sym z ∙ d.judged) (h ∙ ap (λ x. bytes 64 (λ p. shown (list x (entry m)) p (at cells p))) (d.found z).count)
+  pub read_shown : (n' : ℕ) (m' : List ℕ) (a : ℕ) (served out' : List ℕ) → 0 ≡ or_else (measured n (eqb (length cells) 64 && eqb (length out) 64) (length m)) (verdict n m)
+      → Counted n' m' a → Found n (eqb (length cells) 64 && eqb (length out) 64) m n' m' served
+      → out' ≡ bytes 64 (λ p. shown (list a (entry m')) p (at cells p)) → Read n cells m out (record { number = 0 }) out'
+  unfolding read_number
+  read_shown n' m' a served out' d c f h = read_accepted n cells m out out' d (h ∙ ap (λ l. bytes 64 (λ p. shown l p (at cells p))) (is_held n _ m n' m' a served c f))
 
 -- ---- what a write is to store
 
 module _ (n : ℕ) (wanted mask values : List ℕ) (cells : ℕ) (m : List ℕ) where
-  made_refused : (k b c : ℕ) (ds : List ℕ) → k ≡ write_number n wanted mask values cells m → 0 < k → Made n wanted mask values cells m k b c ds
-  made_refused k b c ds e h = record { judged = e; sized = λ z. absurd (omega arith); count = λ z. absurd (omega arith); adds = λ z. absurd (omega arith); digits = λ z. absurd (omega arith) }
+  abbrev sized : Bool
+  sized = eqb (length wanted) 64 && eqb (length mask) 64 && eqb (length values) 64 && eqb cells 64
 
-  module _ (k a : ℕ) (served : List ℕ) (d : Judged n (eqb (length wanted) 64 && eqb (length mask) 64 && eqb (length values) 64 && eqb cells 64) m k a served) where
-    write_judges : write_judged n wanted mask values cells m ≡ k
-    unfolding write_judged
-    write_judges = sym d.judged
+  pub made_judged : (e : Refusal) → number e ≡ or_else (measured n sized (length m)) (verdict n m) → number e ≡ write_number n wanted mask values cells m
+  unfolding write_number write_judged
+  made_judged e h = at_first e (write_judged n wanted mask values cells m) _ h
 
-    pub made_judged : 0 < k → (b c : ℕ) (ds : List ℕ) → Made n wanted mask values cells m k b c ds
-    unfolding write_number
-    made_judged h b c ds = made_refused k b c ds (sym (rw write_judges (first_number k _ h))) (omega arith)
+  module _ (n' : ℕ) (m' : List ℕ) (a : ℕ) (served : List ℕ) (d : 0 ≡ or_else (measured n sized (length m)) (verdict n m)) (c : Counted n' m' a) (f : Found n sized m n' m' served) where
+    -- the plan's entries, without the bits
+    row : List ℕ
+    row = held n m ++ positions 512 (unserved wanted mask values (held n m))
 
-    module _ (z : k ≡ 0) where
-      pub made_sized : Sized n wanted mask values cells m
-      made_sized =
-          let f = d.found z in
-          let w : Bool = eqb (length wanted) 64 in
-          let k : Bool = eqb (length mask) 64 in
-          let v : Bool = eqb (length values) 64 in
-          let c : Bool = eqb cells 64 in
-          let wkv : w && k && v ≡ true = and_left (w && k && v) c f.sized in
-          let wk : w && k ≡ true = and_left (w && k) v wkv in
-          record {
-            least = f.least;
-            most = f.most;
-            wants = eqb-true (length wanted) 64 (and_left w k wk);
-            masks = eqb-true (length mask) 64 (and_right w k wk);
-            holds = eqb-true (length values) 64 (and_right (w && k) v wkv);
-            stores = eqb-true cells 64 (and_right (w && k && v) c f.sized);
-            notes = f.long;
-          }
+    abbrev planned_row : List ℕ
+    planned_row = list a (entry m') ++ positions 512 (unserved_at wanted mask values served)
 
-      module _ (b : ℕ) (fs : List ℕ) (p : Planned n wanted (unserved_at wanted mask values served) (list a (entry m)) b fs) where
-        -- the plan's entries, without the bits
-        row : List ℕ
-        row = held n m ++ positions 512 (unserved wanted mask values (held n m))
+    is_row : planned_row ≡ row
+    unfolding row unserved
+    is_row =
+        ap₂ ◌++◌ (is_held n sized m n' m' a served c f)
+        (positions_ext 512 (unserved_at wanted mask values served) (unserved wanted mask values (held n m))
+        (λ q _. ap (λ t. at mask q && xor (at wanted q) (at values q) && not t) (f.marks.bits q)))
 
-        is_row : list a (entry m) ++ positions 512 (unserved_at wanted mask values served) ≡ row
-        unfolding row unserved held
-        is_row =
-            ap₂ ◌++◌ (ap (λ x. list x (entry m)) (d.found z).count)
-            (positions_ext 512 (unserved_at wanted mask values served) (unserved wanted mask values (held n m))
-            (λ q _. ap (λ t. at mask q && xor (at wanted q) (at values q) && not t) ((d.found z).bits q)))
+    length_row : length planned_row ≡ active n m + needed wanted mask values (held n m)
+    unfolding row needed
+    length_row =
+        ap length is_row ∙ length-append (held n m) (positions 512 (unserved wanted mask values (held n m)))
+        ∙ ap₂ ◌+◌ (length_held n m) (length_positions (unserved wanted mask values (held n m)) 512)
 
-        length_row : length (list a (entry m) ++ positions 512 (unserved_at wanted mask values served)) ≡ active n m + needed wanted mask values (held n m)
-        unfolding row needed
-        length_row =
-            ap length is_row ∙ length-append (held n m) (positions 512 (unserved wanted mask values (held n m)))
-            ∙ ap₂ ◌+◌ (length_held n m) (length_positions (unserved wanted mask values (held n m)) 512)
+    is_active : a ≡ active n m
+    is_active = c.count ∙ ap₂ active f.entries f.bytes
 
-        planned_number : write_number n wanted mask values cells m ≡ cond (ltb n (length (list a (entry m) ++ positions 512 (unserved_at wanted mask values served)))) 6 0
-        unfolding write_number
-        planned_number = rw (write_judges, z) (ap (λ x. cond (ltb n x) 6 0) (sym length_row))
+    planned_number : cond (ltb n (length planned_row)) 6 0 ≡ write_number n wanted mask values cells m
+    unfolding write_number write_judged
+    planned_number = at_second _ (write_judged n wanted mask values cells m) _ d (ap (λ x. cond (ltb n x) 6 0) length_row)
 
-        pub made_full : n < b → (c e : ℕ) (ds : List ℕ) → Made n wanted mask values cells m 6 c e ds
-        made_full h c e ds = made_refused 6 c e ds (sym (planned_number ∙ ap (λ t. cond t 6 0) (lt-ltb n _ (p.over h)))) (omega arith)
+    pub made_full : TooMany n' (unserved_at wanted mask values served) (list a (entry m')) → 6 ≡ write_number n wanted mask values cells m
+    made_full p = ap (λ t. cond t 6 0) (sym (lt-ltb n _ (omega (arith, p.over, f.entries)))) ∙ planned_number
 
-        module _ (h : b ≤ n) where
-          pub planned_few : a ≤ b
-          planned_few = omega (arith, p.count h, length_row, (d.found z).count)
+    module _ (b : ℕ) (fs : List ℕ) (p : Planned n' wanted (unserved_at wanted mask values served) (list a (entry m')) b fs) where
+      pub planned_few : a ≤ b
+      planned_few = omega (arith, p.count, length_row, is_active)
 
-          pub made_planned : (ds : List ℕ) → Digits n fs b ds → Made n wanted mask values cells m 0 b (b - a) ds
-          unfolding active_after after row
-          made_planned ds g = record {
-            judged = sym (planned_number ∙ ap (λ t. cond t 6 0) (le-ltb n _ (omega (arith, p.count h))));
-            sized = λ _. made_sized;
-            count = λ _. p.count h ∙ ap length is_row ∙ sym (length-map row (renewed wanted));
-            adds = λ _. omega (arith, p.count h, length_row, (d.found z).count);
-            digits = λ _ i. g wanted _ (sym (p.count h)) (p.noted h) i ∙ ap (λ l. digit n (map (renewed wanted) l) i) is_row;
-          }
+      pub made_number : 0 ≡ write_number n wanted mask values cells m
+      made_number = ap (λ t. cond t 6 0) (sym (le-ltb n _ (omega (arith, p.count, p.few, f.entries)))) ∙ planned_number
+
+      pub made_planned : (ds : List ℕ) → Digits n' fs b ds → Made n wanted mask values cells m wanted mask values b (b - a) ds
+      unfolding active_after after row
+      made_planned ds g = record {
+        wants = refl;
+        masks = refl;
+        holds = refl;
+        stores = eqb-true cells 64 (and_right _ (eqb cells 64) f.sized);
+        most = omega (arith, c.most, f.entries);
+        notes = sym (ap length f.bytes) ∙ c.long ∙ ap size f.entries;
+        count = p.count ∙ ap length is_row ∙ sym (length-map row (renewed wanted));
+        adds = omega (arith, p.count, length_row, is_active);
+        digits = λ i. g wanted _ (sym p.count) p.noted i ∙ ap₂ (λ x l. digit x (map (renewed wanted) l) i) f.entries is_row;
+      }
 
 -- ---- a write
 
-module _ (n : ℕ) (wanted mask values cells m : List ℕ) (k b c : ℕ) (ds : List ℕ) (p : Made n wanted mask values (length cells) m k b c ds) where
-  pub write_refusal : 0 < k → Write n wanted mask values cells m (record { number = k; active = 0; new = 0 }) cells m
-  write_refusal h = write_refused n wanted mask values cells m k p.judged (omega arith)
+module _ (n : ℕ) (wanted mask values cells m : List ℕ) where
+  pub write_refusal : (e : Refusal) (k : ℕ) → k ≡ number e → number e ≡ write_number n wanted mask values (length cells) m
+      → Write n wanted mask values cells m (record { number = k; active = 0; new = 0 }) cells m
+  write_refusal e k h d = write_refused n wanted mask values cells m k (h ∙ d) (λ z. not_zero e (sym h ∙ z))
 
-  pub write_small : k ≡ 0 → Below 1024 ds × (length m ≤ 13)
-  write_small z = let s = p.sized z in (digits_below n (after wanted mask values (held n m)) ds (after_below wanted mask values (held n m)) (p.digits z), omega (arith, s.most, s.notes))
+  module _ (w k v : List ℕ) (b c : ℕ) (ds : List ℕ) (p : Made n wanted mask values (length cells) m w k v b c ds) where
+    pub write_small : Below 1024 ds × (length m ≤ 13)
+    write_small = (digits_below n (after wanted mask values (held n m)) ds (after_below wanted mask values (held n m)) p.digits, omega (arith, p.most, p.notes))
 
-  pub write_made : k ≡ 0 → (cells' m' : List ℕ) → Below 256 wanted → cells' ≡ bytes 64 (stored wanted mask values) → m' ≡ bytes (length m) (digit_bit ds)
-      → Write n wanted mask values cells m (record { number = 0; active = b; new = c }) cells' m'
-  write_made z cells' m' w hc hm =
-      write_accepted n wanted mask values cells m b c cells' m' (sym z ∙ p.judged) w (p.count z) (p.adds z) hc
-      (encoded n (length m) (after wanted mask values (held n m)) ds m' (p.sized z).notes (p.digits z) hm)
+    pub write_made : (cells' m' : List ℕ) → 0 ≡ write_number n wanted mask values (length cells) m → Below 256 wanted → cells' ≡ bytes 64 (stored w k v) → m' ≡ bytes (length m) (digit_bit ds)
+        → Write n wanted mask values cells m (record { number = 0; active = b; new = c }) cells' m'
+    write_made cells' m' d u hc hm =
+        write_accepted n wanted mask values cells m b c cells' m' d u p.count p.adds
+        (hc ∙ ap (bytes 64) (ap₂ (λ x y. stored x y v) p.wants p.masks ∙ ap (stored wanted mask) p.holds))
+        (encoded n (length m) (after wanted mask values (held n m)) ds m' p.notes p.digits hm)

@@ -1,56 +1,56 @@
 // From metadata to entries: what the entries hold, which are active, and what is wrong with them.
-ghost use Rattle.std.specs.Prelude.{◌≡◌, ◌≤◌};
+ghost use Rattle.std.specs.Prelude.{◌≡◌, ◌≤◌, length, IfOk};
 ghost use Rattle.bits.specs.Bits.{list};
-ghost use Rattle.pointer_promises.specs.Pointer.{entry, active, measured, verdict};
-ghost use Rattle.pointer.specs.Steps.{Marked, Counted, Judged};
+ghost use Rattle.refusals.specs.Numbers.{number_of};
+ghost use Rattle.pointer_promises.specs.Pointer.{entry, active, or_else, measured, verdict};
+ghost use Rattle.pointer.specs.Steps.{Counted, Found, Served, arranged, shared};
 
-use super::octets::shown;
+use crate::octets::shown;
 use crate::{ENTRIES, ENTRY_BITS, ROW_BYTES, ROW_CELLS};
-use refusals::{ACCEPTED, BIT_PAST_END, MALFORMED, OUT_OF_RANGE, SAME_POINTER, WRONG_LENGTH};
+use refusals::Refusal;
 use words::byte;
 
-// Which entries are active, and the positions that these name.
+// The metadata of a row of n entries, and how many of them are active.
 #[derive(Drop)]
-pub struct Row {
-    pub number: usize,
+pub struct Row<'a> {
+    pub n: usize,
+    pub metadata: &'a [u8],
     pub active: usize,
-    pub served: [u8; ROW_BYTES],
+    ghost counted: { Counted n metadata.now active },
 }
 
-// What a call finds in its metadata, where `fixed` says that its other buffers have their lengths.
-pub fn found(n: usize, fixed: bool, m: &[u8]) -> Row
-    ensures { Judged n fixed m.now result.number result.active result.served }
+// What a call finds in its metadata, where `fixed` says that its other buffers have their lengths: the row, and the positions that its active entries name.
+// `fixed` is a test, since `measured` of the definitions is handed one.
+pub fn found<'a>(
+    n: usize,
+    fixed: bool,
+    metadata: &'a [u8],
+) -> Result<(Row<'a>, [u8; ROW_BYTES]), Refusal>
+    ensures number { number_of result ≡ or_else (measured n fixed (length metadata.now)) (verdict n metadata.now) }
+    ensures found { IfOk result (λ f. Found n fixed metadata.now f.0.n f.0.metadata.now f.1) }
 {
-    let k = measured(n, fixed, m.len());
-    if ACCEPTED < k {
-        let served = [0u8; ROW_BYTES];
-        return Row {
-            number: k,
-            active: 0,
-            served,
-        };
-    }
-    let a = count(n, m);
-    let marks = marked(m, a);
-    let served = marks.served;
-    Row {
-        number: judged(n, m, a, marks.repeated),
-        active: a,
-        served,
-    }
+    measured(n, fixed, metadata.len())?;
+    let row = Row {
+        n,
+        metadata,
+        active: count(n, metadata),
+    };
+    row.arranged()?;
+    let served = row.served()?;
+    Ok((row, served))
 }
 
-// The number of entries is judged before the metadata's length is computed from it.
-fn measured(n: usize, fixed: bool, metadata: usize) -> usize
-    ensures { result ≡ measured n fixed metadata }
+// The number of entries is judged before the metadata's length is computed from it. `fixed` is a test, as in the definition.
+fn measured(n: usize, fixed: bool, metadata: usize) -> Result<(), Refusal>
+    ensures { number_of result ≡ measured n fixed metadata }
 {
-    if (n < 1) | (ENTRIES < n) {
-        return OUT_OF_RANGE;
+    if !(1..=ENTRIES).contains(&n) {
+        return Err(Refusal::OutOfRange);
     }
     if fixed & (metadata == (1 + ENTRY_BITS * n + 7) / 8) {
-        ACCEPTED
+        Ok(())
     } else {
-        WRONG_LENGTH
+        Err(Refusal::WrongLength)
     }
 }
 
@@ -73,52 +73,44 @@ fn count(n: usize, m: &[u8]) -> usize
     if byte(m, 0) % 2 == 1 {
         return n;
     }
-    usize::count_ones(entry_at(m, n - 1) % (1 << (n - 1))) as usize
+    (entry_at(m, n - 1) % (1 << (n - 1))).count_ones() as usize
 }
 
-// What is wrong with the entries: the spare bits are read as if they were one more. From the last down to the first that is not active,
-// the last is to hold the count and the others nothing.
-fn judged(n: usize, m: &[u8], a: usize, repeated: bool) -> usize
-    requires { Counted n m.now a repeated }
-    ensures { result ≡ verdict n m.now }
-{
-    if entry_at(m, n) != 0 {
-        return BIT_PAST_END;
-    }
-    let mut idle = (1 << a) - 1;
-    let mut e = n;
-    while a < e {
-        e -= 1;
-        if entry_at(m, e) != idle {
-            return MALFORMED;
+impl<'a> Row<'a> {
+    // What is wrong with the entries: the spare bits are read as if they were one more. From the last down to the first that is not active,
+    // the last is to hold the count and the others nothing.
+    fn arranged(&self) -> Result<(), Refusal>
+        ensures { number_of result ≡ arranged self.now.n self.now.metadata.now }
+    {
+        if entry_at(self.metadata, self.n) != 0 {
+            return Err(Refusal::BitPastEnd);
         }
-        idle = 0;
+        let mut idle = (1 << self.active) - 1;
+        for e in (self.active..self.n).rev() {
+            if entry_at(self.metadata, e) != idle {
+                return Err(Refusal::Malformed);
+            }
+            idle = 0;
+        }
+        Ok(())
     }
-    if repeated { SAME_POINTER } else { ACCEPTED }
-}
 
-// The positions that the first a entries name, and whether one is named twice.
-#[derive(Drop)]
-struct Marks {
-    repeated: bool,
-    served: [u8; ROW_BYTES],
-}
-
-fn marked(m: &[u8], a: usize) -> Marks
-    requires { a ≤ 10 }
-    ensures { Marked (list a (entry m.now)) result.repeated result.served }
-{
-    let mut served = [0u8; ROW_BYTES];
-    let mut repeated = false;
-    let mut i = 0;
-    while i < a {
-        let p = entry_at(m, i) % ROW_CELLS;
-        let q = p / 8;
-        let b = served[q];
-        let c = shown(b, p + ROW_CELLS); // as by an entry that shows a 1 there
-        repeated = repeated | (b == c);
-        served[q] = c;
-        i += 1;
+    // The positions that the active entries name, where none is named twice.
+    fn served(&self) -> Result<[u8; ROW_BYTES], Refusal>
+        ensures number { number_of result ≡ shared self.now.n self.now.metadata.now }
+        ensures served { IfOk result (λ served. Served self.now.n self.now.metadata.now served) }
+    {
+        let mut served = [0u8; ROW_BYTES];
+        for i in 0..self.active {
+            let p = entry_at(self.metadata, i) % ROW_CELLS;
+            let q = p / 8;
+            let b = served[q];
+            let c = shown(b, p + ROW_CELLS); // as by an entry that shows a 1 there
+            if b == c {
+                return Err(Refusal::SamePointer);
+            }
+            served[q] = c;
+        }
+        Ok(served)
     }
-    Marks { repeated, served }
 }

@@ -4,21 +4,17 @@ ghost use Rattle.bits.specs.Bits.{list, bytes, Below};
 ghost use Rattle.pointer_promises.specs.Pointer.{entry, renewed};
 ghost use Rattle.pointer.specs.Steps.{Noted, Digits, digit_bit};
 
-use super::decode::entry_at;
+use crate::decode::{Row, entry_at};
 use crate::{DIGITS, ENTRY_BITS, ROW_CELLS};
 use words::byte;
 
-// The first a entries with their data bits.
-pub fn kept(data: &[u8], m: &[u8], a: usize) -> [usize; DIGITS]
-    requires { a ≤ 10 }
-    ensures { Noted «data».now result (list a (entry m.now)) }
+// The active entries with their data bits.
+pub fn kept(data: &[u8], row: &Row) -> [usize; DIGITS]
+    ensures { Noted «data».now result (list row.now.active (entry row.now.metadata.now)) }
 {
     let mut digits = [0usize; DIGITS];
-    let mut e = 0;
-    while e < a {
-        let x = renewed(data, entry_at(m, e));
-        e += 1;
-        digits[e] = x;
+    for e in 0..row.active {
+        digits[e + 1] = renewed(data, entry_at(row.metadata, e));
     }
     digits
 }
@@ -30,31 +26,28 @@ pub fn renewed(data: &[u8], e: usize) -> usize
     p + ROW_CELLS * ((byte(data, p / 8) >> (p % 8)) % 2)
 }
 
-// The full bit where all n entries are active, else their number a in unary in the last one.
-pub fn counted(n: usize, digits: [usize; DIGITS], a: usize) -> [usize; DIGITS]
-    requires { (1 ≤ n) × (n ≤ 10) × (a ≤ n) }
-    ensures { Digits n digits a result }
+// The full bit where all entries of the row become active, else their number a in unary in the last one.
+pub fn counted(row: &Row, mut digits: [usize; DIGITS], a: usize) -> [usize; DIGITS]
+    requires { a ≤ row.now.n }
+    ensures { Digits row.now.n digits a result }
 {
-    let mut all = digits;
-    if a == n {
-        all[0] = 512;
-        return all;
+    if a == row.n {
+        digits[0] = 512;
+    } else {
+        digits[row.n] = (1 << a) - 1;
     }
-    all[n] = (1 << a) - 1;
-    all
+    digits
 }
 
 // A byte lies in two digits at most.
-pub fn store(digits: [usize; DIGITS], m: &mut [u8])
-    requires { Below 1024 digits × (length m.old ≤ 13) }
-    ensures { m.new ≡ bytes (length m.old) (digit_bit digits) }
+pub fn store(digits: &[usize; DIGITS], m: &mut [u8])
+    requires { Below 1024 digits.now × (length m.old ≤ 13) }
+    ensures { m.new ≡ bytes (length m.old) (digit_bit digits.now) }
 {
-    let mut j = 0;
-    while j < m.len() {
+    for (j, b) in m.iter_mut().enumerate() {
         let x = 8 * j + 9;
         let d = x / ENTRY_BITS;
         let v = digits[d] + 1024 * digits[d + 1];
-        m[j] = ((v >> (x % ENTRY_BITS)) % 256) as u8;
-        j += 1;
+        *b = ((v >> (x % ENTRY_BITS)) % 256) as u8;
     }
 }

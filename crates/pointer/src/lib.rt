@@ -3,6 +3,7 @@
 
 mod octets; // bits of single bytes
 mod decode; // from metadata to entries
+mod wanted; // what a write is lent of its row
 mod plan; // what a write is to store
 mod encode; // from entries to metadata
 mod cells; // the 64 bytes of a row
@@ -20,23 +21,23 @@ const ROW_BYTES: usize = 64;
 const ENTRIES: usize = 10;
 
 const ENTRY_BITS: usize = 10;
-// A digit for the full bit, one for each entry, and one more: a write that finds too many unserved positions notes the first of them before it refuses.
+// A digit for the full bit, one for each entry, and one more that stays 0: a byte of metadata is cut out of two digits.
 const DIGITS: usize = 12;
 
 // What each position shows goes into out.
 pub fn read(n: usize, cells: &[u8], metadata: &[u8], out: &mut [u8]) -> ReadAnswer
     ensures { Read n cells.now metadata.now out.old result out.new }
 {
-    let row = decode::found(
-        n,
-        (cells.len() == ROW_BYTES) & (out.len() == ROW_BYTES),
-        metadata,
-    );
-    if ACCEPTED < row.number {
-        return ReadAnswer { number: row.number };
+    let fixed = (cells.len() == ROW_BYTES) & (out.len() == ROW_BYTES);
+    match decode::found(n, fixed, metadata) {
+        Ok((row, _)) => {
+            cells::show(cells, &row, out);
+            ReadAnswer { number: ACCEPTED }
+        }
+        Err(refusal) => ReadAnswer {
+            number: refusal.number(),
+        },
     }
-    cells::show(cells, metadata, row.active, out);
-    ReadAnswer { number: ACCEPTED }
 }
 
 // The data goes into the cells, and what the stuck ones cannot hold into the entries. Everything is worked out before the first store.
@@ -50,20 +51,20 @@ pub fn write(
 ) -> WriteAnswer
     ensures { Write n «data».now mask.now values.now cells.old metadata.old result cells.new metadata.new }
 {
-    let plan = plan::made(n, data, mask, values, cells.len(), metadata);
-    if ACCEPTED < plan.number {
-        return WriteAnswer {
-            number: plan.number,
+    match plan::made(n, data, mask, values, cells.len(), metadata) {
+        Ok(plan) => {
+            cells::store(&plan.wanted, cells);
+            encode::store(&plan.digits, metadata);
+            WriteAnswer {
+                number: ACCEPTED,
+                active: plan.active,
+                new: plan.new,
+            }
+        }
+        Err(refusal) => WriteAnswer {
+            number: refusal.number(),
             active: 0,
             new: 0,
-        };
-    }
-    let digits = plan.digits;
-    cells::store(data, mask, values, cells);
-    encode::store(digits, metadata);
-    WriteAnswer {
-        number: ACCEPTED,
-        active: plan.active,
-        new: plan.new,
+        },
     }
 }

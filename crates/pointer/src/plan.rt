@@ -1,104 +1,76 @@
 // What a write is to store: the active entries with their data bits, and one more for each unserved position.
-ghost use Rattle.std.specs.Prelude.{◌≡◌, ℕ, ◌≤◌, ◌<◌, length};
-ghost use Rattle.bits.specs.Bits.{list, has};
-ghost use Rattle.pointer_promises.specs.Pointer.{entry};
-ghost use Rattle.pointer.specs.Steps.{unserved_at, unserved_from, Planned, Made};
+ghost use Rattle.std.specs.Prelude.{◌≡◌, ℕ, ◌≤◌, ◌<◌, length, IfOk, MatchResult};
+ghost use Rattle.bits.specs.Bits.{list};
+ghost use Rattle.refusals.specs.Numbers.{number_of};
+ghost use Rattle.pointer_promises.specs.Pointer.{entry, write_number};
+ghost use Rattle.pointer.specs.Steps.{unserved_at, Planned, TooMany, Made};
 
-use super::decode::found;
-use super::encode::{counted, kept, renewed};
-use crate::{DIGITS, ROW_BYTES, ROW_CELLS};
-use refusals::{ACCEPTED, NO_ENTRY_LEFT};
+use crate::decode::{Row, found};
+use crate::encode::{counted, kept, renewed};
+use crate::wanted::Wanted;
+use crate::{DIGITS, ROW_BYTES};
+use refusals::Refusal;
 
-// The answer, and the metadata's digits where its number is 0.
+// What goes into the cells, how many entries are active afterwards, how many of them are new, and the metadata's digits.
 #[derive(Drop)]
-pub struct Plan {
-    pub number: usize,
+pub struct Plan<'a> {
+    pub wanted: Wanted<'a>,
     pub active: usize,
     pub new: usize,
     pub digits: [usize; DIGITS],
 }
 
-pub fn made(n: usize, data: &[u8], mask: &[u8], values: &[u8], cells: usize, m: &[u8]) -> Plan
-    ensures { Made n «data».now mask.now values.now cells m.now result.number result.active result.new result.digits }
+// Everything is judged first, and nothing is stored here.
+pub fn made<'a>(
+    n: usize,
+    data: &'a [u8],
+    mask: &'a [u8],
+    values: &'a [u8],
+    cells: usize,
+    metadata: &[u8],
+) -> Result<Plan<'a>, Refusal>
+    ensures number { number_of result ≡ write_number n «data».now mask.now values.now cells metadata.now }
+    ensures made { IfOk result (λ plan. let w = plan.wanted in
+        Made n «data».now mask.now values.now cells metadata.now w.«data».now w.mask.now w.values.now plan.active plan.new plan.digits) }
 {
-    let fixed = (data.len() == ROW_BYTES) & (mask.len() == ROW_BYTES);
-    let row = found(
-        n,
-        fixed & (values.len() == ROW_BYTES) & (cells == ROW_BYTES),
-        m,
-    );
-    if ACCEPTED < row.number {
-        let none = [0usize; DIGITS];
-        return Plan {
-            number: row.number,
-            active: 0,
-            new: 0,
-            digits: none,
-        };
-    }
-    let served = row.served;
-    let all = planned(n, data, mask, values, served, m, row.active);
-    let a = all.active;
-    let digits = all.digits;
-    if n < a {
-        return Plan {
-            number: NO_ENTRY_LEFT,
-            active: 0,
-            new: 0,
-            digits,
-        };
-    }
-    Plan {
-        number: ACCEPTED,
-        active: a,
-        new: a - row.active,
-        digits: counted(n, digits, a),
-    }
+    let fixed = (data.len() == ROW_BYTES)
+        & (mask.len() == ROW_BYTES)
+        & (values.len() == ROW_BYTES)
+        & (cells == ROW_BYTES);
+    let (row, served) = found(n, fixed, metadata)?;
+    let wanted = Wanted { data, mask, values };
+    let Entries { active, digits } = planned(&wanted, &row, &served)?;
+    Ok(Plan {
+        wanted,
+        active,
+        new: active - row.active,
+        digits: counted(&row, digits, active),
+    })
 }
 
-// How many entries are needed, n + 1 where they are more than n, and their digits.
+// How many entries are needed, and their digits: an array with a count beside it, since there is no heap here.
 #[derive(Drop)]
 struct Entries {
     active: usize,
     digits: [usize; DIGITS],
 }
 
-// Byte by byte, and one turn more for each position found; it ends as soon as there is no entry left.
-fn planned(
-    n: usize,
-    data: &[u8],
-    mask: &[u8],
-    values: &[u8],
-    served: [u8; ROW_BYTES],
-    m: &[u8],
-    held: usize,
-) -> Entries
-    requires { (held ≤ n) × (n ≤ 10) × (length «data».now ≡ 64) × (length mask.now ≡ 64) × (length values.now ≡ 64) }
-    ensures { Planned n «data».now (unserved_at «data».now mask.now values.now served) (list held (entry m.now)) result.active result.digits }
+// Byte by byte, and in each from one unserved position to the next; it ends as soon as there is no entry left.
+fn planned(wanted: &Wanted, row: &Row, served: &[u8; ROW_BYTES]) -> Result<Entries, Refusal>
+    ensures { let r = row.now in let es = list r.active (entry r.metadata.now) in
+        let w = wanted.now in let f = unserved_at w.«data».now w.mask.now w.values.now served.now in
+        MatchResult result (λ all. Planned r.n w.«data».now f es all.active all.digits) (λ e. (e ≡ Refusal.NoEntryLeft) × TooMany r.n f es) }
 {
-    let mut digits = kept(data, m, held);
-    let mut a = held;
-    let mut q = 0;
-    while (q < ROW_CELLS) & (a <= n) {
-        let rest = left(data, mask, values, served[q / 8], q);
-        if rest == 0 {
-            q = 8 * (q / 8) + 8;
-        } else {
-            let p = q + u8::trailing_zeros(rest) as usize;
-            a += 1;
-            digits[a] = renewed(data, p);
-            q = p + 1;
+    let mut digits = kept(wanted.data, row);
+    let mut active = row.active;
+    for i in 0..ROW_BYTES {
+        for k in words::ones(u64::from(wanted.unserved(i, served[i]))) {
+            active += 1;
+            if row.n < active {
+                return Err(Refusal::NoEntryLeft);
+            }
+            digits[active] = renewed(wanted.data, 8 * i + k);
         }
     }
-    Entries { active: a, digits }
-}
-
-// What is unserved in q's byte from q on, where the byte of served positions is given.
-fn left(data: &[u8], mask: &[u8], values: &[u8], served: u8, q: usize) -> u8
-    requires { (q < 512) × (length «data».now ≡ 64) × (length mask.now ≡ 64) × (length values.now ≡ 64) }
-    ensures { (k : ℕ) → has result k ≡ unserved_from «data».now mask.now values.now served q k }
-{
-    let i = q / 8;
-    let wrong = mask[i] & (data[i] ^ values[i]);
-    (wrong ^ (wrong & served)) >> (q % 8)
+    Ok(Entries { active, digits })
 }

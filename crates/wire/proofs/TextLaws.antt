@@ -4,15 +4,14 @@ use mathlib.Core.Bool.{Bool, true, false, cond}
 use mathlib.Core.List.{List, [], ◌∷◌, ◌++◌, append_assoc, append-nil}
 use Prim.Native.Nat.{ℕ, zero, suc, ◌+◌, ◌-◌, ◌/◌, ◌%◌, ◌^◌, ◌≤◌, ◌<◌, min}
 use native.Mathlib.Nat.{pow-suc}
-use native.Mathlib.Numerals.{add-one}
 use native.Mathlib.Omega.{arith}
 use native.Mathlib.Decide.{dec_lt}
 use lib.Dec.{ltb}
 use lib.ListN.{length, take, drop, set, length-append, length-take, length-drop, take-append-drop, drop_of_length-le}
-use lib.Seq.{take_all, drop-length, drop-drop, set_split, drop_at, length-take-le, take_at}
+use lib.Seq.{take_all, drop-drop, set_split, drop_at, length-take-le, take_at}
 use borrow.Author.Tests.{lt-ltb, le-ltb}
 use borrow.Rule.Slice.PartMut.{put_mid, mid_of}
-use Rattle.wire.proofs.PartLaws.{take_least, again}
+use Rattle.wire.proofs.PartLaws.{take_least}
 use Rattle.wire.specs.Text.{hex_digit_ascii, last_digits, hex_of, decimals, decimal, fitting, Put}
 
 -- ---- text put into a buffer
@@ -25,12 +24,6 @@ take_both : (n : ℕ) (t u : List ℕ) → take n (t ++ u) ≡ take n t ++ take 
 take_both zero t u = let z : 0 - length t ≡ 0 = omega arith in rw z
 take_both (suc n) [] u = let z : suc n - 0 ≡ suc n = omega arith in rw z
 take_both (suc n) (x ∷ t) u = let z : suc n - suc (length t) ≡ n - length t = omega arith in rw (z, take_both n t u)
-
-pub put_one : (out : List ℕ) (p b : ℕ) → p < length out → Put (b ∷ []) out p (set out p b) (p + 1)
-unfolding fitting
-put_one out p b h =
-    let e : take (length out - p) (b ∷ []) ≡ b ∷ [] = take_all (length out - p) (b ∷ []) (omega arith) in
-    record { end = rw e; holds = set_split out p b h ∙ ap₂ (λ t q. take p out ++ (t ++ drop q out)) (sym e) (sym (add-one p)) }
 
 pub put_none : {out : List ℕ} {p : ℕ} → Put [] out p out p
 unfolding fitting
@@ -49,7 +42,7 @@ unfolding fitting
 left_past {text} {a} {b} {p} {q} l h =
     let z : length a - p ≡ 0 = omega arith in
     let e : q ≡ p = h.end ∙ rw z (omega arith) in
-    (h.holds ∙ rw (z, e) (take-append-drop p a), e)
+    (h.holds ∙ rw z (cc (take-append-drop p a)), e)
 
 pub put_same : {t u a b : List ℕ} {p q : ℕ} → t ≡ u → Put t a p b q → Put u a p b q
 put_same {t} {u} {a} {b} {p} {q} e h = subst (λ x. Put x a p b q) e h
@@ -150,17 +143,7 @@ unfolding hex_of
 length_hex_of zero x = refl
 length_hex_of (suc n) x = rw (length-append, length_hex_of n (x / 16)) (omega arith)
 
--- sixteen digits, of which the first k were filled
-pub put_hex : {a b : List ℕ} {p q : ℕ} (n k x : ℕ) (new old : List ℕ) → k ≡ min n 16 → k ≤ length old → new ≡ hex_of (length (take k old)) x → Put (take k (new ++ drop k old)) a p b q
-    → Put (hex_of (min n 16) x) a p b q
-put_hex n k x new old e l f h =
-    let m : length new ≡ length (take k old) = ap length f ∙ length_hex_of (length (take k old)) x in
-    put_same ((again new old l m).same ∙ f ∙ ap (λ j. hex_of j x) (length-take-le k old l ∙ e)) h
-
--- a loop that fills a text from its end: none yet, one digit more, and all of them
-pub hex_none : (text : List ℕ) (x : ℕ) → hex_of (length text) x ++ drop (length text) text ≡ hex_of (length text) x
-hex_none text x = rw drop-length (append-nil (hex_of (length text) x))
-
+-- a loop that fills a text from its end: one digit more, and all of them
 hex_step : (j rest d : ℕ) (text goal : List ℕ) → j < length text → hex_of (suc j) rest ++ drop (suc j) text ≡ goal → d ≡ hex_digit_ascii (rest % 16)
     → hex_of j (rest / 16) ++ drop j (set text j d) ≡ goal
 unfolding hex_of

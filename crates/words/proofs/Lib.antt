@@ -5,4 +5,5 @@ pub mod StoreLaws
 pub mod OneStored
 pub mod ShiftLaws
 pub mod GroupLaws
+pub mod SetBitsLaws
 pub mod Claims

@@ -1,21 +1,23 @@
 // Small functions on words, on bytes that make words, and on the bytes of a word. Each public one answers for every argument.
 #![tactic(auto)]
 
+mod set_bits;
 mod stores;
 
 ghost use Rattle.std.specs.Prelude.{◌≡◌, true, cond, ◌+◌, ◌*◌, ◌^◌, ◌≤◌, ◌<◌, min, eqb, length, get_or, take, drop};
 ghost use Rattle.bits.specs.Bits.{word, number, number_at};
 
+pub use set_bits::ones;
 pub use stores::store;
 
 // The bits of a word.
 pub const BITS: usize = 64;
 
-// The smaller of two.
+// The smaller of two: `min` by the name that docs/PROMISES.md lists.
 pub fn least(a: usize, b: usize) -> usize
     ensures { result ≡ min a b }
 {
-    if a < b { a } else { b }
+    a.min(b)
 }
 
 // The word whose n lowest bits are 1: all of them from 64 on.
@@ -29,14 +31,13 @@ pub fn low_bits(n: usize) -> u64
     }
 }
 
+// Copies the words into as many. Not by `copy_from_slice`: the archive would need `memmove`, and is to need `memcpy` and `memset` alone.
 fn copy_all(from: &[u64], into: &mut [u64])
     requires { length into.old ≡ length from.now }
     ensures { into.new ≡ from.now }
 {
-    let mut i = 0;
-    while i < from.len() {
-        into[i] = from[i];
-        i += 1;
+    for (i, word) in into.iter_mut().enumerate() {
+        *word = from[i];
     }
 }
 
@@ -49,15 +50,29 @@ pub fn copy(from: &[u64], into: &mut [u64])
     }
 }
 
+// The same of bytes. Two functions each, since one of any element would be asked how long an element is.
+fn copy_all_bytes(from: &[u8], into: &mut [u8])
+    requires { length into.old ≡ length from.now }
+    ensures { into.new ≡ from.now }
+{
+    for (i, byte) in into.iter_mut().enumerate() {
+        *byte = from[i];
+    }
+}
+
+pub fn copy_bytes(from: &[u8], into: &mut [u8])
+    ensures { into.new ≡ cond (eqb (length into.old) (length from.now)) from.now into.old }
+{
+    if from.len() == into.len() {
+        copy_all_bytes(from, into);
+    }
+}
+
 // The byte at `at` as a number, and 0 past the end.
 pub fn byte(bytes: &[u8], at: usize) -> usize
     ensures { (result ≡ get_or bytes.now at 0) × (result < 256) }
 {
-    if at < bytes.len() {
-        bytes[at] as usize
-    } else {
-        0
-    }
+    bytes.get(at).map_or(0, |byte| usize::from(*byte))
 }
 
 // A byte, moved up.
@@ -65,19 +80,18 @@ fn lift(x: u8, up: usize) -> u64
     requires { up ≤ 56 }
     ensures { result ≡ x * 2 ^ up }
 {
-    (x as u64) << up
+    u64::from(x) << up
 }
 
-// The `n` bytes from byte `at` on as a number, the first the lowest.
+// The `n` bytes from byte `at` on as a number, the first the lowest. By hand: `from_le_bytes` is of eight bytes that are all there,
+// and fewer would first be copied.
 fn join(bytes: &[u8], at: usize, n: usize) -> u64
     requires { (n ≤ 8) × (at + n ≤ length bytes.now) }
     ensures { result ≡ number 256 (take n (drop at bytes.now)) }
 {
     let mut v = 0u64;
-    let mut j = 0;
-    while j < n {
+    for j in 0..n {
         v = lift(bytes[at + j], 8 * j) | v;
-        j += 1;
     }
     v
 }

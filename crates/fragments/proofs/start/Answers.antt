@@ -1,4 +1,4 @@
-use mathlib.Core.Path.{sym, subst}
+use mathlib.Core.Path.{sym, subst, ◌∙◌}
 use Rattle.fragment_promises.specs.Transfers.{started}
 use Rattle.fragment_promises.specs.Promises.{Start}
 use Rattle.fragment_promises.proofs.StepLaws.{start_promise}
@@ -7,5 +7,4 @@ use Rattle.fragments.proofs.start.Goals as goal
 pub returns : goal.returns
 returns c =
     let a = c.args in
-    subst (λ x. Start a.rows a.columns a.k x (started a.rows a.columns a.k)) (sym c.standing-number.ensures)
-    (start_promise a.rows a.columns a.k)
+    subst (λ x. Start a.rows a.columns a.k x (started a.rows a.columns a.k)) (sym (c.number_of-number.ensures ∙ c.lacking.ensures.noted)) (start_promise a.rows a.columns a.k)

@@ -1,4 +1,4 @@
 use Rattle.grid.proofs.read.Goals as goal
 
 pub returns : goal.returns
-returns c = c.show-s.ensures.reads
+returns c = rw (c.number_of.ensures, c.index_of.ensures) c.show-shown.ensures

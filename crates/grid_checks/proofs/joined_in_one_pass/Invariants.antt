@@ -1,10 +1,5 @@
-use Prim.Native.Nat.{◌≤◌, ◌-◌}
-use lib.ListN.{length}
 use Rattle.grid_checks.proofs.JudgeLaws.{JoinedThree}
 use Rattle.grid_checks.proofs.joined_in_one_pass.Given as goal
 
 abbrev pub invariant-loop-i : goal.invariant-loop-i
-invariant-loop-i l = JoinedThree l.«data» l.mask l.values l.i l.all × (l.i ≤ length l.«data»)
-
-abbrev pub decreases-loop-i : goal.decreases-loop-i
-decreases-loop-i l = length l.«data» - l.i
+invariant-loop-i l = JoinedThree l.«data» l.mask l.values l.i l.all

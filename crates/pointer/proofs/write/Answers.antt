@@ -1,17 +1,13 @@
-use native.Mathlib.Omega.{arith}
-use Rattle.pointer.proofs.RowLaws.{none, write_refusal, write_small, write_made}
+use Rattle.pointer.proofs.RowLaws.{write_refusal, write_small, write_made}
 use Rattle.pointer.proofs.write.Goals as goal
 
 -- `write` stores what was worked out. Assumes nothing.
 
-pub returns-then-plan-gt-ACCEPTED : goal.returns-then-plan-gt-ACCEPTED
-returns-then-plan-gt-ACCEPTED c = write_refusal _ _ _ _ _ _ _ _ _ _ c.made-plan.ensures (omega arith)
+pub store-requires-in-Ok : goal.store-requires-in-Ok
+store-requires-in-Ok c = write_small _ _ _ _ c.args.cells.now _ _ _ _ _ _ _ c.in-Ok.ensures.made
 
-pub store-requires : goal.store-requires
-store-requires c = let s = c.made-plan.ensures.sized (none c.if-plan-gt-ACCEPTED.false) in (s.wants, s.masks, s.holds, s.stores)
+pub returns-in-Ok : goal.returns-in-Ok
+returns-in-Ok c = write_made _ _ _ _ _ _ _ _ _ _ _ _ c.in-Ok.ensures.made _ _ c.in-Ok.ensures.number (λ i. (c.type_inv.«data» i).fits) c.store.ensures c.store-in-Ok.ensures
 
-pub store-requires-2 : goal.store-requires-2
-store-requires-2 c = write_small _ _ _ _ c.args.cells.now _ _ _ _ _ c.made-plan.ensures (none c.if-plan-gt-ACCEPTED.false)
-
-pub returns : goal.returns
-returns c = write_made _ _ _ _ _ _ _ _ _ _ c.made-plan.ensures (none c.if-plan-gt-ACCEPTED.false) _ _ (λ i. (c.type_inv.«data» i).fits) c.store.ensures c.store-2.ensures
+pub returns-in-Err : goal.returns-in-Err
+returns-in-Err c = write_refusal _ _ _ _ _ _ _ _ c.number.ensures c.in-Err.ensures.number

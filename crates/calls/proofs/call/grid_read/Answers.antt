@@ -1,29 +1,17 @@
+use mathlib.Core.Path.{ap}
 use mathlib.Core.List.{[], ◌∷◌}
-use borrow.Author.Rules.{rules}
 use Rattle.bits.specs.Bits.{list}
 use Rattle.calls.specs.Format.{table, form_of}
+use Rattle.calls.specs.Kinds.{tag_of}
 use Rattle.calls.specs.Calls.{grid_read}
-use Rattle.calls.proofs.FormatLaws.{held}
 use Rattle.calls.proofs.TextLaws.{put_next}
 use Rattle.calls.proofs.CallLaws.{put_made}
 use Rattle.calls.proofs.call.grid_read.Goals as goal
-
-pub load_words-cells-requires-clause-held : goal.load_words-cells-requires-clause-held
-unfolding table form_of list
-load_words-cells-requires-clause-held c = held 4 0 (search rules)
-
-pub elements-counters-requires : goal.elements-counters-requires
-unfolding table form_of list
-elements-counters-requires c = held 4 1 (search rules)
-
-pub load_words-shown-requires-clause-held : goal.load_words-shown-requires-clause-held
-unfolding table form_of list
-load_words-shown-requires-clause-held c = held 4 2 (search rules)
 
 pub returns : goal.returns
 unfolding table form_of list
 returns c =
     let r = c.read-r in
-    put_made c.requires (grid_read r.ensures r.auto.out) c.call_sizes-z.ensures
-    (λ i. c.load_words-cells.ensures i ∷ c.elements-counters.ensures i ∷ c.load_words-shown.ensures i ∷ [])
-    (put_next _ _ _ c.put_answer-end.ensures c.put_words.ensures)
+    put_made c.args.call.bytes.now (ap tag_of c.requires) (grid_read r.ensures r.auto.out) c.grid_numbers-rows.ensures
+    (λ i. c.load-cells.ensures i ∷ c.bytes-counters.ensures i ∷ c.load-shown.ensures i ∷ [])
+    (put_next _ _ _ c.answer.ensures c.buffer.ensures)

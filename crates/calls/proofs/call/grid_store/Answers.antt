@@ -1,38 +1,18 @@
+use mathlib.Core.Path.{ap}
 use mathlib.Core.List.{[], ◌∷◌}
-use borrow.Author.Rules.{rules}
 use Rattle.bits.specs.Bits.{list}
 use Rattle.calls.specs.Format.{table, form_of}
+use Rattle.calls.specs.Kinds.{tag_of}
 use Rattle.calls.specs.Calls.{grid_store}
-use Rattle.calls.proofs.FormatLaws.{held}
 use Rattle.calls.proofs.TextLaws.{put_next}
 use Rattle.calls.proofs.CallLaws.{put_made}
 use Rattle.calls.proofs.call.grid_store.Goals as goal
-
-pub load_words-wanted-requires-clause-held : goal.load_words-wanted-requires-clause-held
-unfolding table form_of list
-load_words-wanted-requires-clause-held c = held 5 0 (search rules)
-
-pub load_words-mask-requires-clause-held : goal.load_words-mask-requires-clause-held
-unfolding table form_of list
-load_words-mask-requires-clause-held c = held 5 1 (search rules)
-
-pub load_words-values-requires-clause-held : goal.load_words-values-requires-clause-held
-unfolding table form_of list
-load_words-values-requires-clause-held c = held 5 2 (search rules)
-
-pub elements-counters-requires : goal.elements-counters-requires
-unfolding table form_of list
-elements-counters-requires c = held 5 3 (search rules)
-
-pub load_words-cells-requires-clause-held : goal.load_words-cells-requires-clause-held
-unfolding table form_of list
-load_words-cells-requires-clause-held c = held 5 4 (search rules)
 
 pub returns : goal.returns
 unfolding table form_of list
 returns c =
     let r = c.store-r in
-    put_made c.requires (grid_store r.ensures r.auto.cells) c.call_sizes-z.ensures
+    put_made c.args.call.bytes.now (ap tag_of c.requires) (grid_store r.ensures r.auto.cells) c.grid_numbers-rows.ensures
     (λ i.
-    c.load_words-wanted.ensures i ∷ c.load_words-mask.ensures i ∷ c.load_words-values.ensures i ∷ c.elements-counters.ensures i ∷ c.load_words-cells.ensures i ∷ [])
-    (put_next _ _ _ c.put_answer-end.ensures c.put_words.ensures)
+    c.load-wanted.ensures i ∷ c.load-mask.ensures i ∷ c.load-values.ensures i ∷ c.bytes-counters.ensures i ∷ c.load-cells.ensures i ∷ [])
+    (put_next _ _ _ c.answer.ensures c.buffer.ensures)

@@ -1,16 +1,14 @@
-use mathlib.Core.Path.{refl}
+use Rattle.std.proofs.lemmas.Result.{err_from_is_err_and}
 use Rattle.grid.proofs.ShowLaws.{show_refused, show_done}
 use Rattle.grid.proofs.shows.show_sized.Goals as goal
 
-pub returns-then-c-ne-ACCEPTED : goal.returns-then-c-ne-ACCEPTED
-returns-then-c-ne-ACCEPTED c =
+pub returns-in_err-judged : goal.returns-in_err-judged
+returns-in_err-judged c =
     let a = c.args in
-    let u = c.unpack-c in
-    show_refused a.columns a.k a.upto a.cells.now a.counters.now a.out.now c.requires.0 u.result u.ensures _ refl refl refl c.if-c-ne-ACCEPTED.true
+    let p = err_from_is_err_and c.from_residual.result c.from_residual.ensures.1 in
+    rw (p.1, p.2) (show_refused a.columns a.k a.upto a.cells.now a.counters.now a.out.now c.requires.0 c.unpack-judged.result c.unpack-judged.ensures _ c.in_err-judged.was)
 
 pub returns : goal.returns
 returns c =
     let a = c.args in
-    let u = c.unpack-c in
-    show_done a.columns a.k a.upto a.cells.now a.counters.now a.out.now c.requires.0 u.result u.ensures c.if-c-ne-ACCEPTED.false _ _ refl refl c.depth.ensures
-    c.invert.ensures
+    show_done a.columns a.k a.upto a.cells.now a.counters.now a.out.now c.requires.0 c.unpack-judged.result c.unpack-judged.ensures c.in_ok-judged.was _ _ c.requires.1 c.depth.ensures c.invert.ensures

@@ -1,8 +1,5 @@
 use Rattle.grid_levels.proofs.CountLaws.{Counting}
 use Rattle.grid.proofs.stores.counted.Given as goal
 
-abbrev pub invariant-loop-rest : goal.invariant-loop-rest
-invariant-loop-rest l = Counting l.«data» l.mask l.values l.faults l.wrong l.rest
-
-abbrev pub decreases-loop-rest : goal.decreases-loop-rest
-decreases-loop-rest l = l.rest
+abbrev pub invariant-loop-i : goal.invariant-loop-i
+invariant-loop-i l = let r = l.rows in Counting r.«data».now r.mask.now r.values.now l.faults l.wrong l.i-iterator.rest

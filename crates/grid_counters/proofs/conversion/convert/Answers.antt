@@ -1,86 +1,78 @@
 use native.Mathlib.Omega.{arith}
-use mathlib.Core.Path.{◌≡◌, refl, sym, ap, ap₂, ◌∙◌}
-use mathlib.Core.Bool.{true, ◌&&◌}
-use Prim.Native.Nat.{◌≤◌, ◌<◌, ◌+◌}
-use borrow.Author.Tests.{not-false}
-use lib.Dec.{ltb}
-use lib.ListN.{length}
-use Rattle.bits.specs.Bits.{some, first}
-use Rattle.rdis.specs.Packing.{width, counter, spare_clear}
+use mathlib.Core.Path.{◌≡◌, sym, ap, ◌∙◌}
+use Prim.Native.Nat.{◌+◌}
+use Rattle.std.specs.Prelude.{Ok, get_or, length}
+use Rattle.std.proofs.lemmas.Result.{err_from_is_err_and}
+use Rattle.rdis.specs.Packing.{width, counter}
+use Rattle.grid_sets.specs.Sets.{sets_of}
 use Rattle.grid_sets.specs.Planes.{AreThrees}
-use Rattle.grid_counters.specs.Steps.{Judges}
-use Rattle.grid_sets.specs.Promises.{convertible}
-use Rattle.rdis.proofs.PackingLaws.{width_some, width_few}
 use Rattle.grid_sets.proofs.PlaneLaws.{threes_ext}
 use Rattle.grid_sets.proofs.RoomLaws.{Room}
+use Rattle.grid_counters.specs.Steps.{spare_judged}
 use Rattle.grid_counters.proofs.PromiseLaws.{counter_few}
-use Rattle.grid_counters.proofs.ConvertLaws.{not_convertible, convert_room, convert_refused, convert_done}
+use Rattle.grid_counters.proofs.ConvertLaws.{not_held, not_packable, convert_spare, convert_above, convert_done}
 use Rattle.grid_counters.proofs.conversion.convert.Goals as goal
-use Rattle.grid_counters.proofs.conversion.convert.Goals.{After-judge_planes-j, After-packable, After-planes_at-first, After-planes_at-second, After-width-width, Else-not-roomy-packable}
+use Rattle.grid_counters.proofs.conversion.convert.Goals.{In_ok-held, After-none_above}
 
-can_be : (p : After-packable) → let a = p.args in p.roomy.result && p.packable.result ≡ convertible a.k a.to a.rows a.columns (length a.bytes.now) (length a.out.now)
-unfolding convertible
-can_be p = ap₂ ◌&&◌ p.roomy.ensures p.packable.ensures
+-- what is held are the arguments
+room : (i : In_ok-held) → let a = i.args in Room a.k a.rows a.columns (length a.bytes.now)
+room i =
+    let h = i.in_ok-held.held in
+    let same = i.in_ok-held.ensures.ok in
+    let r : Room h.k h.rows h.columns (length h.bytes.now) = record { rows = h.few_rows; columns = h.few_columns; size = h.sized } in
+    rw (same.0, same.1, same.2, same.3) at r
 
-can : (e : Else-not-roomy-packable) → let a = e.args in convertible a.k a.to a.rows a.columns (length a.bytes.now) (length a.out.now) ≡ true
-unfolding convertible
-can e = sym (ap₂ ◌&&◌ e.roomy.ensures e.packable.ensures) ∙ not-false _ e.if-not-roomy-packable.false-raw
+spare : (s : After-none_above) → let a = s.args in spare_judged (width a.k) (a.rows + a.columns) a.bytes.now ≡ Ok tt
+spare s = let same = s.in_ok-held.ensures.ok in sym (rw (same.0, same.1, same.2, same.3) at s.spare_clear.ensures) ∙ s.in_ok-spare_clear.was
 
-room : (e : Else-not-roomy-packable) → let a = e.args in Room a.k a.rows a.columns (length a.bytes.now)
-room e = let a = e.args in convert_room a.k a.to a.rows a.columns a.bytes.now a.out.now (can e)
-
--- the width is 1, 2 or 3
-narrow : (w : After-width-width) → (0 < w.width-width.result) × (w.width-width.result ≤ 3)
-narrow w = let k = w.args.k in (omega (arith, w.width-width.ensures, width_some k), omega (arith, w.width-width.ensures, width_few k))
-
--- the planes of the counters that the bytes hold
-first_planes : (p : After-planes_at-first) → let a = p.args in AreThrees 64 (counter (width a.k) a.bytes.now) p.planes_at-first.result
-first_planes p =
-    let a = p.args in
+first_planes : (n : After-none_above) → let a = n.args in AreThrees 64 (counter (width a.k) a.bytes.now) n.planes-first.result
+first_planes n =
+    let a = n.args in
+    let same = n.in_ok-held.ensures.ok in
     let f = counter (width a.k) a.bytes.now in
-    threes_ext 64 _ f _ (λ i _. ap f (omega arith)) (rw p.width-width.ensures at p.planes_at-first.ensures)
+    threes_ext 64 _ f _ (λ i _. ap f (omega arith)) (rw (same.0, same.3) at n.planes-first.ensures)
 
-second_planes : (p : After-planes_at-second) → let a = p.args in AreThrees 64 (λ i. counter (width a.k) a.bytes.now (64 + i)) p.planes_at-second.result
-second_planes p = rw p.width-width.ensures at p.planes_at-second.ensures
+second_planes : (n : After-none_above) → let a = n.args in AreThrees 64 (λ i. counter (width a.k) a.bytes.now (64 + i)) n.planes-second.result
+second_planes n = let same = n.in_ok-held.ensures.ok in rw (same.0, same.3) at n.planes-second.ensures
 
--- what was judged
-clear_is : (j : After-judge_planes-j) → let a = j.args in j.spare_clear-clear.result ≡ spare_clear (width a.k) (a.rows + a.columns) a.bytes.now
-clear_is j = rw j.width-width.ensures at j.spare_clear-clear.ensures
+-- which are above K
+first_above : (n : After-none_above) → let a = n.args in get_or n.thresholds.result a.k 0 ≡ get_or (sets_of 64 (counter (width a.k) a.bytes.now)) a.k 0
+first_above n = let a = n.args in ap (λ s. get_or s a.k 0) (n.thresholds.ensures 64 _ (counter_few a.k a.bytes.now) (first_planes n))
 
-verdict : (j : After-judge_planes-j) → let a = j.args in let f = counter (width a.k) a.bytes.now in
-    Judges j.spare_clear-clear.result (some 128 (λ t. ltb a.k (f t))) (first 128 (λ t. ltb a.k (f t))) j.judge_planes-j.result
-verdict j =
-    let a = j.args in
-    let f = counter (width a.k) a.bytes.now in
-    let few = counter_few a.k a.bytes.now in
-    let first = threes_ext 64 _ f _ (λ i _. ap f (omega arith)) (rw j.width-width.ensures at j.planes_at-first.ensures) in
-    let second = rw j.width-width.ensures at j.planes_at-second.ensures in
-    j.judge_planes-j.ensures f a.k few (j.above.ensures f few first) (j.above-2.ensures (λ i. f (64 + i)) (λ t. few (64 + t)) second)
+second_above : (n : After-none_above) → let a = n.args in get_or n.thresholds-2.result a.k 0 ≡ get_or (sets_of 64 (λ i. counter (width a.k) a.bytes.now (64 + i))) a.k 0
+second_above n = let a = n.args in ap (λ s. get_or s a.k 0) (n.thresholds-2.ensures 64 _ (λ t. counter_few a.k a.bytes.now (64 + t)) (second_planes n))
 
-pub returns-then-not-roomy-packable : goal.returns-then-not-roomy-packable
-returns-then-not-roomy-packable c = let a = c.args in not_convertible a.k a.to a.rows a.columns a.bytes.now a.out.now _ (can_be (goal.at.returns-then-not-roomy-packable c).After-packable) c.if-not-roomy-packable.true-raw
-
-pub planes_at-first-requires : goal.planes_at-first-requires
-planes_at-first-requires c = ((narrow (goal.at.planes_at-first-requires c).After-width-width).0, (narrow (goal.at.planes_at-first-requires c).After-width-width).1, refl, omega arith)
-
-pub planes_at-second-requires : goal.planes_at-second-requires
-planes_at-second-requires c = ((narrow (goal.at.planes_at-second-requires c).After-width-width).0, (narrow (goal.at.planes_at-second-requires c).After-width-width).1, refl, omega arith)
-
-pub overflow_add-rows : goal.overflow_add-rows
-overflow_add-rows c = let r = room (goal.at.overflow_add-rows c).Else-not-roomy-packable in omega (arith, r.rows, r.columns)
-
-pub spare_clear-clear-requires : goal.spare_clear-clear-requires
-spare_clear-clear-requires c =
-    let r = room (goal.at.spare_clear-clear-requires c).Else-not-roomy-packable in
-    (omega (arith, (narrow (goal.at.spare_clear-clear-requires c).After-width-width).1), omega (arith, r.rows, r.columns), rw c.width-width.ensures r.size)
-
-pub returns-then-j-eq-ACCEPTED : goal.returns-then-j-eq-ACCEPTED
-returns-then-j-eq-ACCEPTED c =
+pub returns-in_err-held : goal.returns-in_err-held
+returns-in_err-held c =
     let a = c.args in
-    convert_done a.k a.to a.rows a.columns a.bytes.now a.out.now (can (goal.at.returns-then-j-eq-ACCEPTED c).Else-not-roomy-packable) _ (clear_is (goal.at.returns-then-j-eq-ACCEPTED c).After-judge_planes-j) c.judge_planes-j.result (verdict (goal.at.returns-then-j-eq-ACCEPTED c).After-judge_planes-j) c.if-j-eq-ACCEPTED.true
-    _ _ (first_planes (goal.at.returns-then-j-eq-ACCEPTED c).After-planes_at-first) (second_planes (goal.at.returns-then-j-eq-ACCEPTED c).After-planes_at-second) c.fill_planes.new.out (omega arith) c.fill_planes.ensures
+    let p = err_from_is_err_and c.from_residual.result c.from_residual.ensures.1 in
+    let e = c.in_err-held.ensures.err in
+    rw (p.1, p.2, e.0) (not_held a.k a.to a.rows a.columns a.bytes.now a.out.now e.1)
 
-pub returns-else-j-eq-ACCEPTED : goal.returns-else-j-eq-ACCEPTED
-returns-else-j-eq-ACCEPTED c =
+pub returns-then-not-packable : goal.returns-then-not-packable
+returns-then-not-packable c = let a = c.args in not_packable a.k a.to a.rows a.columns a.bytes.now a.out.now (sym c.if-not-packable.ensures)
+
+pub returns-in_err-spare_clear : goal.returns-in_err-spare_clear
+returns-in_err-spare_clear c =
     let a = c.args in
-    convert_refused a.k a.to a.rows a.columns a.bytes.now a.out.now (can (goal.at.returns-else-j-eq-ACCEPTED c).Else-not-roomy-packable) _ (clear_is (goal.at.returns-else-j-eq-ACCEPTED c).After-judge_planes-j) c.judge_planes-j.result (verdict (goal.at.returns-else-j-eq-ACCEPTED c).After-judge_planes-j) c.if-j-eq-ACCEPTED.false
+    let same = c.in_ok-held.ensures.ok in
+    let p = err_from_is_err_and c.from_residual-in_err-spare_clear.result c.from_residual-in_err-spare_clear.ensures.1 in
+    rw (p.1, p.2)
+    (convert_spare a.k a.to a.rows a.columns a.bytes.now a.out.now (room (goal.at.returns-in_err-spare_clear c).In_ok-held) (sym c.if-not-packable.ensures) _
+    (sym (rw (same.0, same.1, same.2, same.3) at c.spare_clear.ensures) ∙ c.in_err-spare_clear.was))
+
+pub returns-in_err-none_above : goal.returns-in_err-none_above
+returns-in_err-none_above c =
+    let a = c.args in
+    let at = goal.at.returns-in_err-none_above c in
+    let p = err_from_is_err_and c.from_residual-in_err-none_above.result c.from_residual-in_err-none_above.ensures.1 in
+    rw (p.1, p.2)
+    (convert_above a.k a.to a.rows a.columns a.bytes.now a.out.now (room at.In_ok-held) (sym c.if-not-packable.ensures) (spare at.After-none_above) _ _ (first_above at.After-none_above) (second_above at.After-none_above) _
+    (sym c.none_above.ensures ∙ c.in_err-none_above.was))
+
+pub returns : goal.returns
+returns c =
+    let a = c.args in
+    let at = goal.at.returns c in
+    convert_done a.k a.to a.rows a.columns a.bytes.now a.out.now (room at.In_ok-held) (sym c.if-not-packable.ensures) (spare at.After-none_above) _ _ (first_above at.After-none_above) (second_above at.After-none_above)
+    (sym c.none_above.ensures ∙ c.in_ok-none_above.was) _ _ (first_planes at.After-none_above) (second_planes at.After-none_above) c.fill_planes.new.out (omega arith) c.fill_planes.ensures

@@ -1,6 +1,6 @@
 use Prim.Native.Nat.{◌-◌}
 use native.Mathlib.Omega.{arith}
-use Rattle.grid_levels.proofs.StuckLaws.{mark_few, from_end, from_few, from_more, from_room, from_eight, from_start, four_few}
+use Rattle.grid_levels.proofs.StuckLaws.{mark_few, from_end, from_few, from_more, from_room, from_eight, four_few}
 use Rattle.grid_levels.proofs.stuck.stuck_rows.Goals as goal
 use Rattle.grid_levels.proofs.stuck.stuck_rows.Invariants.{holds}
 
@@ -21,43 +21,26 @@ loop-i-preserved c =
     let l = c.loop-i in
     (omega arith, from_more _ (holds c.args.mask.now) l.i l.rows c.mark_if.result (omega arith) (omega arith) c.mark_if.ensures l.invariant.1)
 
-pub loop-i-2-init : goal.loop-i-2-init
-loop-i-2-init c = let l = c.loop-i in (l.invariant.0, omega arith, l.invariant.1)
+pub overflow_mul-rows-in-loop-e : goal.overflow_mul-rows-in-loop-e
+overflow_mul-rows-in-loop-e c = let l = c.loop-e in omega (arith, from_room _ (holds c.args.mask.now) l.e l.rows c.requires (omega arith) l.invariant)
 
-pub overflow_mul-rows-in-loop-i-2 : goal.overflow_mul-rows-in-loop-i-2
-overflow_mul-rows-in-loop-i-2 c =
-    let l = c.loop-i-2 in
-    omega (arith, from_room _ (holds c.args.mask.now) l.i l.rows c.requires (omega arith) l.invariant.2)
+pub overflow_mul-rows-in-loop-e-2 : goal.overflow_mul-rows-in-loop-e-2
+overflow_mul-rows-in-loop-e-2 c = omega (arith, four_few c.bits_of_four.result _ c.bits_of_four.ensures)
 
-pub bits_of_four-requires : goal.bits_of_four-requires
-bits_of_four-requires c = (omega arith, c.requires)
+pub overflow_add-rows-in-loop-e : goal.overflow_add-rows-in-loop-e
+overflow_add-rows-in-loop-e c = omega (arith, four_few c.bits_of_four.result _ c.bits_of_four.ensures, four_few c.bits_of_four-in-loop-e.result _ c.bits_of_four-in-loop-e.ensures)
 
-pub overflow_mul-rows-in-loop-i-2-2 : goal.overflow_mul-rows-in-loop-i-2-2
-overflow_mul-rows-in-loop-i-2-2 c = omega (arith, four_few c.bits_of_four.result _ c.bits_of_four.ensures)
-
-pub bits_of_four-requires-in-loop-i-2 : goal.bits_of_four-requires-in-loop-i-2
-bits_of_four-requires-in-loop-i-2 c = (omega arith, c.requires)
-
-pub overflow_add-rows-in-loop-i-2 : goal.overflow_add-rows-in-loop-i-2
-overflow_add-rows-in-loop-i-2 c = omega (arith, four_few c.bits_of_four.result _ c.bits_of_four.ensures, four_few c.bits_of_four-in-loop-i-2.result _ c.bits_of_four-in-loop-i-2.ensures)
-
-pub overflow_add-rows-in-loop-i-2-2 : goal.overflow_add-rows-in-loop-i-2-2
-overflow_add-rows-in-loop-i-2-2 c =
-    let l = c.loop-i-2 in
+pub overflow_add-rows-in-loop-e-2 : goal.overflow_add-rows-in-loop-e-2
+overflow_add-rows-in-loop-e-2 c =
+    let l = c.loop-e in
     omega (
       arith,
       four_few c.bits_of_four.result _ c.bits_of_four.ensures,
-      four_few c.bits_of_four-in-loop-i-2.result _ c.bits_of_four-in-loop-i-2.ensures,
-      from_room _ (holds c.args.mask.now) l.i l.rows c.requires (omega arith) l.invariant.2,
+      four_few c.bits_of_four-in-loop-e.result _ c.bits_of_four-in-loop-e.ensures,
+      from_room _ (holds c.args.mask.now) l.e l.rows c.requires (omega arith) l.invariant,
     )
 
-pub loop-i-2-preserved : goal.loop-i-2-preserved
-loop-i-2-preserved c =
-    let l = c.loop-i-2 in (
-      omega arith,
-      omega arith,
-      from_eight _ (holds c.args.mask.now) l.i l.rows c.bits_of_four.result c.bits_of_four-in-loop-i-2.result (omega arith) (omega arith) c.bits_of_four.ensures c.bits_of_four-in-loop-i-2.ensures l.invariant.2,
-    )
-
-pub returns : goal.returns
-returns c = let l = c.loop-i-2 in from_start _ (holds c.args.mask.now) l.i l.rows (omega arith) l.invariant.2
+pub loop-e-preserved : goal.loop-e-preserved
+loop-e-preserved c =
+    let l = c.loop-e in
+    from_eight _ (holds c.args.mask.now) l.e l.rows c.bits_of_four.result c.bits_of_four-in-loop-e.result (omega arith) (omega arith) c.bits_of_four.ensures c.bits_of_four-in-loop-e.ensures l.invariant

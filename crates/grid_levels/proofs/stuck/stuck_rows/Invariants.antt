@@ -1,5 +1,4 @@
-use Prim.Native.Nat.{ℕ, ◌%◌, ◌≤◌}
-use mathlib.Core.Path.{◌≡◌}
+use Prim.Native.Nat.{ℕ, ◌*◌, ◌/◌, ◌≤◌}
 use mathlib.Core.Bool.{Bool, not}
 use mathlib.Core.List.{List}
 use lib.Dec.{eqb}
@@ -12,14 +11,7 @@ abbrev pub holds : List ℕ → ℕ → Bool
 holds mask i = not (eqb (get_or mask i 0) 0)
 
 abbrev pub invariant-loop-i : goal.invariant-loop-i
-invariant-loop-i l = (l.i ≤ length l.mask) × From (length l.mask) (holds l.mask) l.i l.rows
+invariant-loop-i l = (8 * (length l.mask / 8) ≤ l.i) × From (length l.mask) (holds l.mask) l.i l.rows
 
-abbrev pub decreases-loop-i : goal.decreases-loop-i
-decreases-loop-i l = l.i
-
--- the others are done
-abbrev pub invariant-loop-i-2 : goal.invariant-loop-i-2
-invariant-loop-i-2 l = (l.i ≤ length l.mask) × (l.i % 8 ≡ 0) × From (length l.mask) (holds l.mask) l.i l.rows
-
-abbrev pub decreases-loop-i-2 : goal.decreases-loop-i-2
-decreases-loop-i-2 l = l.i
+abbrev pub invariant-loop-e : goal.invariant-loop-e
+invariant-loop-e l = From (length l.mask) (holds l.mask) (8 * l.e) l.rows

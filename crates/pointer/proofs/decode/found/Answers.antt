@@ -1,21 +1,30 @@
-use native.Mathlib.Omega.{arith}
-use Rattle.pointer.proofs.DecodeLaws.{counted}
-use Rattle.pointer.proofs.RowLaws.{none, row_unmeasured, row_sized, row_decoded}
+use mathlib.Core.Path.{refl, sym}
+use Rattle.pointer_promises.proofs.NumberLaws.{measured_zero}
+use Rattle.refusals.proofs.NumberLaws.{passed_on}
+use Rattle.pointer.proofs.RowLaws.{found_arranged, found_shared}
 use Rattle.pointer.proofs.decode.found.Goals as goal
 
--- `found` refuses what is not measured right, and reads the rest. Assumes nothing.
+-- `found` judges step by step. Assumes nothing.
 
-pub returns-then-k-gt-ACCEPTED : goal.returns-then-k-gt-ACCEPTED
-returns-then-k-gt-ACCEPTED c = row_unmeasured _ _ _ _ c.measured-k.ensures c.if-k-gt-ACCEPTED.true _
+pub count-requires : goal.count-requires
+count-requires c = let s = measured_zero _ _ _ (sym c.in_ok-measured.ensures) in (s.least, s.most)
 
-pub count-a-requires : goal.count-a-requires
-count-a-requires c = let s = row_sized _ _ c.args.m.now _ c.measured-k.ensures (none c.if-k-gt-ACCEPTED.false) in (s.0, s.1)
+pub invariant_of-row : goal.invariant_of-row
+invariant_of-row c =
+    let s = measured_zero _ _ _ (sym c.in_ok-measured.ensures) in
+    record { counted = record { least = s.least; most = s.most; long = s.long; count = c.count.ensures.0; few = c.count.ensures.1 } }
 
-pub marked-marks-requires : goal.marked-marks-requires
-marked-marks-requires c = let s = row_sized _ _ c.args.m.now _ c.measured-k.ensures (none c.if-k-gt-ACCEPTED.false) in omega (arith, s.1, c.count-a.ensures.1)
+pub returns-in_err-arranged-clause-number : goal.returns-in_err-arranged-clause-number
+returns-in_err-arranged-clause-number c = passed_on _ _ _ c.from_residual-in_err-arranged.ensures.1 (found_arranged _ _ _ c.in_ok-measured.ensures _ c.in_err-arranged.ensures)
 
-pub judged-requires : goal.judged-requires
-judged-requires c = let a = c.count-a.ensures in counted _ _ _ a.0 a.1 _ _ c.marked-marks.ensures (row_sized _ _ c.args.m.now _ c.measured-k.ensures (none c.if-k-gt-ACCEPTED.false))
+pub returns-in_err-served-clause-number : goal.returns-in_err-served-clause-number
+returns-in_err-served-clause-number c =
+    passed_on _ _ _ c.from_residual-in_err-served.ensures.1 (found_shared _ _ _ c.in_ok-measured.ensures _ c.in_ok-arranged.ensures c.in_err-served.ensures.number)
 
-pub returns : goal.returns
-returns c = let a = c.count-a.ensures in row_decoded _ _ _ _ c.measured-k.ensures (none c.if-k-gt-ACCEPTED.false) _ _ _ _ a.0 a.1 c.marked-marks.ensures c.judged.ensures
+pub returns-clause-number : goal.returns-clause-number
+returns-clause-number c = found_shared _ _ _ c.in_ok-measured.ensures _ c.in_ok-arranged.ensures c.in_ok-served.ensures.number
+
+pub returns-clause-found : goal.returns-clause-found
+returns-clause-found c =
+    let s = measured_zero _ _ _ (sym c.in_ok-measured.ensures) in
+    record { entries = refl; bytes = refl; sized = s.sized; marks = c.in_ok-served.ensures.served }

@@ -1,4 +1,4 @@
-use mathlib.Core.Path.{◌≡◌, sym, subst}
+use mathlib.Core.Path.{sym, subst}
 use native.Mathlib.Omega.{arith}
 use Rattle.bits.specs.Bits.{list}
 use Rattle.bits.proofs.BoundLaws.{length_list}
@@ -11,13 +11,10 @@ use Rattle.pointer.proofs.encode.kept.Goals as goal
 -- `kept` renews entry by entry. Assumes nothing.
 
 pub loop-e-init : goal.loop-e-init
-loop-e-init c = (omega arith, unfold list in noted_start _)
+loop-e-init c = unfold list in noted_start _
 
 pub loop-e-preserved : goal.loop-e-preserved
 loop-e-preserved c =
     let l = c.loop-e in
-    let m = c.args.m.now in
-    (omega arith, subst (Noted _ _) (sym (one_more_lem m l.e _ c.entry_at.ensures)) (noted_more _ _ (list l.e (entry m)) l.e _ _ (length_list l.e (entry m)) (omega arith) c.renewed-x.ensures l.invariant.1))
-
-pub returns : goal.returns
-returns c = let e : c.loop-e.e ≡ c.args.a = omega arith in let g = c.args in subst (λ x. Noted g.«data».now c.loop-e.digits (list x (entry g.m.now))) e c.loop-e.invariant.1
+    let m = c.args.row.now.metadata.now in
+    subst (Noted _ _) (sym (one_more_lem m l.e _ c.entry_at.ensures)) (noted_more _ _ (list l.e (entry m)) l.e _ _ (length_list l.e (entry m)) (omega arith) c.renewed.ensures l.invariant)

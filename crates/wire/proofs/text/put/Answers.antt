@@ -7,5 +7,5 @@ returns-then-out-at c = put_past c.if-out-at.true
 
 pub returns : goal.returns
 returns c =
-    let d = all_copied _ _ (has_place _ _ _ _ c.least-n.ensures) c.copy.ensures.end c.copy.ensures.holds in
-    put_copied _ _ _ _ (omega arith) c.least-n.ensures d.0 d.1
+    let d = all_copied _ _ (has_place _ _ _ _ c.min-n.ensures) c.copy.ensures.end c.copy.ensures.holds in
+    put_copied _ _ _ _ (omega arith) c.min-n.ensures d.0 d.1

@@ -9,4 +9,4 @@ pub returns-then-n-lt8 : goal.returns-then-n-lt8
 returns-then-n-lt8 c = stored_past _ _ 8 _ _ _ (omega (arith, c.if-n-lt8.true)) (omega arith) c.put_few.ensures
 
 pub returns : goal.returns
-returns c = c.put_eight.ensures
+returns c = c.put.ensures
