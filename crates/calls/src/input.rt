@@ -18,8 +18,8 @@ pub struct Input {
     pub end: usize,
     ghost started: { at ≤ end },
     ghost inside: { end ≤ vec_len room },
-    // a call fits
-    ghost wide: { 41003 ≤ vec_len room },
+    // so many bytes all along, and a call fits
+    ghost wide: { vec_len room ≡ 65536 },
 }
 
 // Reads once. Where the part that is read into is not empty, 0 is the end of the input.

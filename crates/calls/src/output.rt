@@ -17,8 +17,8 @@ pub struct Output {
     pub room: Vec<u8>,
     pub end: usize,
     ghost inside: { end ≤ vec_len room },
-    // no line is longer
-    ghost wide: { 32928 ≤ vec_len room },
+    // so many bytes all along, and no line is longer
+    ghost wide: { vec_len room ≡ 65536 },
 }
 
 impl Output {

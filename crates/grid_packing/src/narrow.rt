@@ -11,6 +11,9 @@ pub trait Narrow: Copy + Drop {
     // The three planes: one that there is no word for is 0.
     ghost planes_of: { Self → Threes };
 
+    // What is kept of three planes.
+    ghost kept: { Threes → Self };
+
     // What the counters are below.
     ghost limit: { ℕ };
 
@@ -18,14 +21,17 @@ pub trait Narrow: Copy + Drop {
     fn planes(self) -> Threes
         ensures { result ≡ planes_of self };
 
-    // The counters that have these planes, where each is below the limit.
+    // What is kept of these planes, whatever they are. Of counters below the limit that is all.
     fn from_planes(p: Threes) -> Self
-        ensures { (n : ℕ) (f : ℕ → ℕ) → ((i : ℕ) → f i < limit) → AreThrees n f p → planes_of result ≡ p };
+        ensures kept { result ≡ kept p }
+        ensures all { (n : ℕ) (f : ℕ → ℕ) → ((i : ℕ) → f i < limit) → AreThrees n f p → planes_of result ≡ p };
 }
 
 // Counters that are 0 or 1, as those of one level are.
 impl Narrow for u64 {
     ghost planes_of = { ones_of };
+
+    ghost kept = { λ p. p.planes.low };
 
     ghost limit = { 2 };
 
@@ -44,6 +50,8 @@ impl Narrow for u64 {
 impl Narrow for Planes {
     ghost planes_of = { twos_of };
 
+    ghost kept = { λ p. p.planes };
+
     ghost limit = { 4 };
 
     fn planes(self) -> Threes {
@@ -60,6 +68,8 @@ impl Narrow for Planes {
 
 impl Narrow for Threes {
     ghost planes_of = { λ p. p };
+
+    ghost kept = { λ p. p };
 
     ghost limit = { 8 };
 

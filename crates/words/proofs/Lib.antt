@@ -6,4 +6,5 @@ pub mod OneStored
 pub mod ShiftLaws
 pub mod GroupLaws
 pub mod SetBitsLaws
+pub mod OneNext
 pub mod Claims

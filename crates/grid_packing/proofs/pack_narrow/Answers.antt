@@ -28,8 +28,8 @@ returns g c =
     columns_after m n r q a.rows.few a.columns.few _ (rw (c.planes-c.ensures, ← c.requires.as_many) c.tally-2.ensures) in
     let one = c.first.ensures f ours theirs in
     let two = c.second.ensures f theirs (λ t h. all_past m n r q t (omega (arith, a.columns.few))) in
-    let e1 = c.from_planes.ensures 64 f less one in
-    let e2 = c.from_planes-2.ensures 64 (λ i. f (64 + i)) (λ i. less (64 + i)) two in
+    let e1 = c.from_planes.ensures.all 64 f less one in
+    let e2 = c.from_planes-2.ensures.all 64 (λ i. f (64 + i)) (λ i. less (64 + i)) two in
     let long : length c.fill.new.out ≡ length a.out.now = omega arith in
     all_packed m n r q a.rows.few a.columns.few (width a.k) (width_some a.k) (counters_fit a.k m n used a.rowsets.now a.columnsets.now c.requires.held)
     c.first.result c.second.result one two a.out.now c.fill.new.out (long ∙ c.requires.sized) (rw (e1, e2) at c.fill.ensures)

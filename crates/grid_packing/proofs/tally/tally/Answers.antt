@@ -20,4 +20,4 @@ returns g c =
     let n = c.args.lines.count in
     let e : l.set-index ≡ length sets = omega arith in
     let all = c.within.ensures _ (subst (λ m. AreThrees 64 (times sets m) l.p) e l.invariant) in
-    rw (c.from_planes.ensures n _ (λ i. omega (arith, times_few sets (length sets) i, c.requires)) all) all
+    rw (c.from_planes.ensures.all n _ (λ i. omega (arith, times_few sets (length sets) i, c.requires)) all) all
