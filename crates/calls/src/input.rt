@@ -18,7 +18,7 @@ pub struct Input {
     pub end: usize,
     ghost started: { at ≤ end },
     ghost inside: { end ≤ vec_len room },
-    // so many bytes all along, and a call fits
+    // its length never changes, and a call fits
     ghost wide: { vec_len room ≡ 65536 },
 }
 

@@ -17,7 +17,7 @@ pub struct Output {
     pub room: Vec<u8>,
     pub end: usize,
     ghost inside: { end ≤ vec_len room },
-    // so many bytes all along, and no line is longer
+    // its length never changes, and no line is longer
     ghost wide: { vec_len room ≡ 65536 },
 }
 
